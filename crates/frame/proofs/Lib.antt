@@ -1,0 +1,3 @@
+pub mod Smallness
+pub mod Weights
+pub mod Back
