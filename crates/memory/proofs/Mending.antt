@@ -68,6 +68,7 @@ voted-back n m h ws holds upset k lt =
     (upset .two k lt))
 
 pub votes-mend : Votes-mend
+unfolding voted-words
 votes-mend n kept found words holds upset = sym (fill-by-all (voted n found) words n 0 (holds .0) (λ k lt. sym (voted-back n kept found words holds upset k lt)))
 
 -- places of different copies or words differ

@@ -20,7 +20,7 @@ unfoldable pub voted : ℕ → List ℕ → ℕ → ℕ
 voted n m k = majority (copy n m 0 k) (copy n m 1 k) (copy n m 2 k)
 
 -- the n words that are read of a memory
-abbrev pub voted-words : ℕ → List ℕ → List ℕ
+unfoldable pub voted-words : ℕ → List ℕ → List ℕ
 voted-words n m = map (voted n m) (counting 0 n)
 
 -- a memory that holds these words

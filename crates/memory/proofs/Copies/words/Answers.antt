@@ -5,7 +5,7 @@ use denote.Ref.{now}
 use lib.ListN.{length, getD, set, length-set, length-replicate}
 use Rattle.std.proofs.shelf.Counted.{fill-by-all}
 use Rattle.std.proofs.shelf.Edits.{fill-by-more}
-use Rattle.memory.specs.Threefold.{voted}
+use Rattle.memory.specs.Threefold.{voted, voted-words}
 use Rattle.memory.proofs.Copies.words.Needs as need
 
 pub loop-k-again : need.loop-k-again
@@ -16,6 +16,7 @@ loop-k-again g c =
     )
 
 pub returns : need.returns
+unfolding voted-words
 returns g c =
     fill-by-all (voted (g .N) (now (c .args .self .now .numbers))) (c .loop-k .words) (g .N) 0 (c .loop-k .inv .0) (λ k h. c .loop-k .inv .1 k (omega arith))
 
