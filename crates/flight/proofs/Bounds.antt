@@ -67,8 +67,12 @@ set-both P (x ∷ xs) (suc p) v d (suc i) a b = set-both P xs p v d i a b
 reception-bounded : (n : ℕ) (i : Inputs) (s : State) → Lawful i → Bounded n n s → Bounded (suc n) n (at-reception i s)
 reception-bounded n i s l b =
     subst (Bounded (suc n) n) (sym (reception-only i s)) (record {
-      time = (let h = b .time in omega arith); expected = b .expected; rejected = b .rejected; missed = b .missed;
-      parameters = λ k. ⊎-elim (λ (h : k < 16). rw (reception-read i s k l h) (let z = l .small k in omega arith)) (λ (h : 16 ≤ k). rw (reception-kept i s k l h) (b .parameters k)) (cases-lt k 16) })
+      time = (let h = b .time in omega arith);
+      expected = b .expected;
+      rejected = b .rejected;
+      missed = b .missed;
+      parameters = λ k. ⊎-elim (λ (h : k < 16). rw (reception-read i s k l h) (let z = l .small k in omega arith)) (λ (h : 16 ≤ k). rw (reception-kept i s k l h) (b .parameters k)) (cases-lt k 16);
+    })
 
 done-bounded : (t n : ℕ) (s : State) (c : Command) → Small-command c → Bounded t n s → Bounded t (suc n) (expecting-next (done s c))
 done-bounded t n s (Put a b) q h = record { time = h .time; expected = omega arith; rejected = omega arith; missed = omega arith; parameters = λ k. set-both Small (s .parameters) a b 0 k q (h .parameters k) }
@@ -83,12 +87,12 @@ looser t n s h = record { time = h .time; expected = omega arith; rejected = ome
 obeyed-bounded : (time n : ℕ) (t : Telecommand) (s : State) → Small-command (t .command) → Bounded time n s → Bounded time (suc n) (obeyed t s)
 obeyed-bounded time n t s q h =
     obeyed-cases t s (Bounded time (suc n)) (λ _ _. done-bounded time n s (t .command) q h)
-      (λ _ _. record { time = h .time; expected = omega arith; rejected = omega arith; missed = omega arith; parameters = h .parameters })
-      (λ _. looser time n s h)
+    (λ _ _. record { time = h .time; expected = omega arith; rejected = omega arith; missed = omega arith; parameters = h .parameters })
+    (λ _. looser time n s h)
 
 pub after-bounded : (is : List Inputs) → All-lawful machine is → Bounded (length is) (length is) (after is)
 after-bounded [] l = record { time = omega arith; expected = omega arith; rejected = omega arith; missed = omega arith; parameters = all-same 64 }
 after-bounded (i ∷ is) (more j js l ls) =
     let b = reception-bounded (length is) i (after is) l (after-bounded is ls) in
     ticked-cases (Bounded (suc (length is)) (suc (length is))) i (after is) (λ _. looser (suc (length is)) (length is) (at-reception i (after is)) b)
-      (λ t e. obeyed-bounded (suc (length is)) (length is) t (at-reception i (after is)) (decoded-small (i .frame) t e) b)
+    (λ t e. obeyed-bounded (suc (length is)) (length is) t (at-reception i (after is)) (decoded-small (i .frame) t e) b)

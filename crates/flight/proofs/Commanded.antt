@@ -47,11 +47,11 @@ each-once sent (i ∷ is) g =
     let k = expected-kept i s in
     let ih : obeyed-in is ≡ first-sent sent (s .expected) = each-once sent is (g .1) in
     ticked-cases (λ (u : State). obeyed-with (heard i is) (s .expected) (obeyed-in is) ≡ first-sent sent (u .expected)) i s
-      (λ e. ap (λ (x : Option Telecommand). obeyed-with x (s .expected) (obeyed-in is)) e ∙ ih ∙ ap (first-sent sent) (sym k))
-      (λ t e. obeyed-cases t r (λ (u : State). obeyed-with (heard i is) (s .expected) (obeyed-in is) ≡ first-sent sent (u .expected))
-        (λ d _. turn-with (heard i is) t (s .expected) (obeyed-in is) e (d ∙ k) ∙ next t e d ih ∙ ap (λ n. first-sent sent (suc n)) (sym (done-expected r (t .command))))
-        (λ d _. turn-with (heard i is) t (s .expected) (obeyed-in is) e (d ∙ k) ∙ next t e d ih)
-        (λ f. else-with (heard i is) t (s .expected) (obeyed-in is) e (λ d. f (d ∙ sym k)) ∙ ih ∙ ap (first-sent sent) (sym k)))
+    (λ e. ap (λ (x : Option Telecommand). obeyed-with x (s .expected) (obeyed-in is)) e ∙ ih ∙ ap (first-sent sent) (sym k))
+    (λ t e. obeyed-cases t r (λ (u : State). obeyed-with (heard i is) (s .expected) (obeyed-in is) ≡ first-sent sent (u .expected))
+    (λ d _. turn-with (heard i is) t (s .expected) (obeyed-in is) e (d ∙ k) ∙ next t e d ih ∙ ap (λ n. first-sent sent (suc n)) (sym (done-expected r (t .command))))
+    (λ d _. turn-with (heard i is) t (s .expected) (obeyed-in is) e (d ∙ k) ∙ next t e d ih)
+    (λ f. else-with (heard i is) t (s .expected) (obeyed-in is) e (λ d. f (d ∙ sym k)) ∙ ih ∙ ap (first-sent sent) (sym k)))
   where
     next : (t : Telecommand) → heard i is ≡ Some t → t .number ≡ at-reception i (after is) .expected → obeyed-in is ≡ first-sent sent (after is .expected)
         → t .command ∷ obeyed-in is ≡ first-sent sent (suc (at-reception i (after is) .expected))
@@ -60,9 +60,10 @@ each-once sent (i ∷ is) g =
 pub comes-through : Comes-through
 comes-through i is c e =
     let t : Telecommand = record { number = after is .expected; command = c } in
-    let r = at-reception i (after is) in
-    (turn-with (heard i is) t (after is .expected) (obeyed-in is) e refl,
-     ap (λ (u : State). u .expected) (ticked-heard i (after is) (Some t) e) ∙ obeyed-expected t r (sym (expected-kept i (after is))) ∙ ap suc (expected-kept i (after is)))
+    let r = at-reception i (after is) in (
+      turn-with (heard i is) t (after is .expected) (obeyed-in is) e refl,
+      ap (λ (u : State). u .expected) (ticked-heard i (after is) (Some t) e) ∙ obeyed-expected t r (sym (expected-kept i (after is))) ∙ ap suc (expected-kept i (after is)),
+    )
 
 pub safe-at-once : Safe-at-once
 safe-at-once i is e =

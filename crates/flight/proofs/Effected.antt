@@ -52,15 +52,17 @@ not-done i is c e cannot =
 
 pub commands-act : Commands-act
 commands-act = record {
-    put = λ i is a b e p. its-turn i is (Put a b) e (place-may a p) ∙ ap (λ n. record { time = before-command i is .time; expected = suc n; safe-mode = before-command i is .safe-mode; rejected = before-command i is .rejected; missed = before-command i is .missed; parameters = set (before-command i is .parameters) a b }) (expected-kept i (after is));
-    sleep = λ i is e. its-turn i is Sleep e refl ∙ ap (λ n. record { time = before-command i is .time; expected = suc n; safe-mode = true; rejected = before-command i is .rejected; missed = before-command i is .missed; parameters = before-command i is .parameters }) (expected-kept i (after is));
-    wake = λ i is e. its-turn i is Wake e refl ∙ ap (λ n. record { time = before-command i is .time; expected = suc n; safe-mode = false; rejected = before-command i is .rejected; missed = before-command i is .missed; parameters = before-command i is .parameters }) (expected-kept i (after is)) }
+  put = λ i is a b e p. its-turn i is (Put a b) e (place-may a p) ∙ ap (λ n. record { time = before-command i is .time; expected = suc n; safe-mode = before-command i is .safe-mode; rejected = before-command i is .rejected; missed = before-command i is .missed; parameters = set (before-command i is .parameters) a b }) (expected-kept i (after is));
+  sleep = λ i is e. its-turn i is Sleep e refl ∙ ap (λ n. record { time = before-command i is .time; expected = suc n; safe-mode = true; rejected = before-command i is .rejected; missed = before-command i is .missed; parameters = before-command i is .parameters }) (expected-kept i (after is));
+  wake = λ i is e. its-turn i is Wake e refl ∙ ap (λ n. record { time = before-command i is .time; expected = suc n; safe-mode = false; rejected = before-command i is .rejected; missed = before-command i is .missed; parameters = before-command i is .parameters }) (expected-kept i (after is));
+}
 
 pub else-ignored : Else-ignored
 else-ignored = record {
-    nothing-came = λ i is e. ticked-heard i (after is) None e;
-    not-its-turn = λ i is t e f. ticked-heard i (after is) (Some t) e ∙ obeyed-else t (at-reception i (after is)) (λ d. f (d ∙ expected-kept i (after is)));
-    undoable = λ i is c e u. not-done i is c e (undoable-cannot (before-command i is) c u) ∙ ap (λ n. record { time = before-command i is .time; expected = suc n; safe-mode = before-command i is .safe-mode; rejected = suc (before-command i is .rejected); missed = before-command i is .missed; parameters = before-command i is .parameters }) (expected-kept i (after is)) }
+  nothing-came = λ i is e. ticked-heard i (after is) None e;
+  not-its-turn = λ i is t e f. ticked-heard i (after is) (Some t) e ∙ obeyed-else t (at-reception i (after is)) (λ d. f (d ∙ expected-kept i (after is)));
+  undoable = λ i is c e u. not-done i is c e (undoable-cannot (before-command i is) c u) ∙ ap (λ n. record { time = before-command i is .time; expected = suc n; safe-mode = before-command i is .safe-mode; rejected = suc (before-command i is .rejected); missed = before-command i is .missed; parameters = before-command i is .parameters }) (expected-kept i (after is));
+}
 
 -- what no command changes
 done-low : (s : State) (c : Command) (k : ℕ) → can s c ≡ true → k < 16 → parameter (done s c) k ≡ parameter s k
@@ -74,7 +76,7 @@ reads-right i is k l h =
     let r = at-reception i (after is) in
     let e = reception-read i (after is) k l h in
     ticked-cases (λ (u : State). parameter u k ≡ getD (i .readings) k 0) i (after is) (λ _. e)
-      (λ t _. obeyed-cases t r (λ (u : State). parameter u k ≡ getD (i .readings) k 0) (λ _ c. done-low r (t .command) k c h ∙ e) (λ _ _. e) (λ _. e))
+    (λ t _. obeyed-cases t r (λ (u : State). parameter u k ≡ getD (i .readings) k 0) (λ _ c. done-low r (t .command) k c h ∙ e) (λ _ _. e) (λ _. e))
 
 done-time : (s : State) (c : Command) → (done s c .time ≡ s .time) × (done s c .rejected ≡ s .rejected) × (done s c .missed ≡ s .missed)
 done-time s (Put a b) = (refl, refl, refl)
@@ -88,7 +90,7 @@ time-right (i ∷ is) =
     let r = at-reception i (after is) in
     let e : r .time ≡ suc (length is) = ap (λ (u : State). u .time) (reception-only i (after is)) ∙ ap suc (time-right is) in
     ticked-cases (λ (u : State). u .time ≡ suc (length is)) i (after is) (λ _. e)
-      (λ t _. obeyed-cases t r (λ (u : State). u .time ≡ suc (length is)) (λ _ _. done-time r (t .command) .0 ∙ e) (λ _ _. e) (λ _. e))
+    (λ t _. obeyed-cases t r (λ (u : State). u .time ≡ suc (length is)) (λ _ _. done-time r (t .command) .0 ∙ e) (λ _ _. e) (λ _. e))
 
 pub missed-right : Missed-right
 missed-right [] = refl
@@ -96,7 +98,7 @@ missed-right (i ∷ is) =
     let r = at-reception i (after is) in
     let e : r .missed ≡ 0 = ap (λ (u : State). u .missed) (reception-only i (after is)) ∙ missed-right is in
     ticked-cases (λ (u : State). u .missed ≡ 0) i (after is) (λ _. e)
-      (λ t _. obeyed-cases t r (λ (u : State). u .missed ≡ 0) (λ _ _. done-time r (t .command) .2 ∙ e) (λ _ _. e) (λ _. e))
+    (λ t _. obeyed-cases t r (λ (u : State). u .missed ≡ 0) (λ _ _. done-time r (t .command) .2 ∙ e) (λ _ _. e) (λ _. e))
 
 pub rejected-right : Rejected-right
 rejected-right [] = refl
@@ -104,13 +106,13 @@ rejected-right (i ∷ is) =
     let r = at-reception i (after is) in
     let k : r .rejected ≡ rejections is = ap (λ (u : State). u .rejected) (reception-only i (after is)) ∙ rejected-right is in
     let none : (o : Option Telecommand) → heard i is ≡ o → turned-down o r ≡ 0 → rejections is ≡ rejections is + turned-down (heard i is) r =
-        λ o e z. sym (add-zero (rejections is)) ∙ ap (λ n. rejections is + n) (sym z) ∙ ap (λ (x : Option Telecommand). rejections is + turned-down x r) (sym e) in
+    λ o e z. sym (add-zero (rejections is)) ∙ ap (λ n. rejections is + n) (sym z) ∙ ap (λ (x : Option Telecommand). rejections is + turned-down x r) (sym e) in
     ticked-cases (λ (u : State). u .rejected ≡ rejections is + turned-down (heard i is) r) i (after is)
-      (λ e. k ∙ none None e refl)
-      (λ t e. obeyed-cases t r (λ (u : State). u .rejected ≡ rejections is + turned-down (heard i is) r)
-        (λ d c. done-time r (t .command) .1 ∙ k ∙ none (Some t) e (cond-false (eqb (t .number) (r .expected) && not (can r (t .command))) 1 0 (and-right (eqb (t .number) (r .expected)) (not (can r (t .command))) (not-from-true (can r (t .command)) c))))
-        (λ d c. ap suc k ∙ sym (add-one (rejections is)) ∙ ap (λ n. rejections is + n) (sym (cond-true (eqb (t .number) (r .expected) && not (can r (t .command))) 1 0 (and-from (eqb (t .number) (r .expected)) (not (can r (t .command))) (eq-eqb (t .number) (r .expected) d) (not-from-false (can r (t .command)) c)))) ∙ ap (λ (x : Option Telecommand). rejections is + turned-down x r) (sym e))
-        (λ f. k ∙ none (Some t) e (cond-false (eqb (t .number) (r .expected) && not (can r (t .command))) 1 0 (and-left (eqb (t .number) (r .expected)) (not (can r (t .command))) (ne-eqb (t .number) (r .expected) f)))))
+    (λ e. k ∙ none None e refl)
+    (λ t e. obeyed-cases t r (λ (u : State). u .rejected ≡ rejections is + turned-down (heard i is) r)
+    (λ d c. done-time r (t .command) .1 ∙ k ∙ none (Some t) e (cond-false (eqb (t .number) (r .expected) && not (can r (t .command))) 1 0 (and-right (eqb (t .number) (r .expected)) (not (can r (t .command))) (not-from-true (can r (t .command)) c))))
+    (λ d c. ap suc k ∙ sym (add-one (rejections is)) ∙ ap (λ n. rejections is + n) (sym (cond-true (eqb (t .number) (r .expected) && not (can r (t .command))) 1 0 (and-from (eqb (t .number) (r .expected)) (not (can r (t .command))) (eq-eqb (t .number) (r .expected) d) (not-from-false (can r (t .command)) c)))) ∙ ap (λ (x : Option Telecommand). rejections is + turned-down x r) (sym e))
+    (λ f. k ∙ none (Some t) e (cond-false (eqb (t .number) (r .expected) && not (can r (t .command))) 1 0 (and-left (eqb (t .number) (r .expected)) (not (can r (t .command))) (ne-eqb (t .number) (r .expected) f)))))
 
 noughts : (n k : ℕ) → _≡_ {A = ℕ} (getD (replicate n 0) k 0) 0
 noughts zero k = refl

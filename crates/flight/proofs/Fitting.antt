@@ -35,4 +35,4 @@ pub never-refused : Never-refused
 never-refused is kept found flown upset short k lt =
     let e : voted-words word-count found ≡ words-of (after is) = votes-mend word-count kept found (words-of (after is)) (flies-right .holds is kept flown) upset in
     le-ltb most (getD (voted-words word-count found) k 0)
-      (subst (λ (ws : List ℕ). getD ws k 0 ≤ most) (sym e) (words-most (length is) (after is) short (after-bounded is (all-lawful (threefold word-count) machine is kept flown)) k))
+    (subst (λ (ws : List ℕ). getD ws k 0 ≤ most) (sym e) (words-most (length is) (after is) short (after-bounded is (all-lawful (threefold word-count) machine is kept flown)) k))

@@ -27,8 +27,9 @@ holds-story K M mends returns is kept (ticked i js m found left flown upset lawf
 
 pub always-flies : Always-flies
 always-flies K M mends returns = record {
-    reads = λ is kept found flown upset. ap (M .state) (mends kept found (M .words (story M is)) (holds-story K M mends returns is kept flown) upset) ∙ returns is (all-lawful K M is kept flown);
-    holds = holds-story K M mends returns }
+  reads = λ is kept found flown upset. ap (M .state) (mends kept found (M .words (story M is)) (holds-story K M mends returns is kept flown) upset) ∙ returns is (all-lawful K M is kept flown);
+  holds = holds-story K M mends returns;
+}
 
 returns-machine : Returns machine
 returns-machine is lawful = reads-back (after is) (after-sized is lawful) .1
@@ -40,7 +41,8 @@ pub carries-on : Carries-on
 carries-on i is kept found flown upset lawful =
     let e : state-of (voted-words word-count found) ≡ after is = flies-right .reads is kept found flown upset in
     let t : satellite.ticked i (state-of (voted-words word-count found)) ≡ after (i ∷ is) = ap (satellite.ticked i) e in
-    let sized : length (words-of (after (i ∷ is))) ≡ word-count = reads-back (after (i ∷ is)) (after-sized (i ∷ is) (more i is lawful (all-lawful (threefold word-count) machine is kept flown))) .0 in
-    (t,
-     ticked i is kept found (thrice (words-of (after (i ∷ is)))) flown upset lawful
-       (subst (λ s. Holds word-count (thrice (words-of (after (i ∷ is)))) (words-of s)) (sym t) (sized, refl)))
+    let sized : length (words-of (after (i ∷ is))) ≡ word-count = reads-back (after (i ∷ is)) (after-sized (i ∷ is) (more i is lawful (all-lawful (threefold word-count) machine is kept flown))) .0 in (
+      t,
+      ticked i is kept found (thrice (words-of (after (i ∷ is)))) flown upset lawful
+          (subst (λ s. Holds word-count (thrice (words-of (after (i ∷ is)))) (words-of s)) (sym t) (sized, refl)),
+    )

@@ -40,6 +40,6 @@ command-small f s = either (eqb (getD f 1 0) 0) (Put (getD f 2 0) (getD f 3 0)) 
 pub decoded-small : (f : List ℕ) (t : Telecommand) → decoded f ≡ Some t → Small-command (t .command)
 decoded-small f t e =
     cond-both (is-whole f) (Some (record { number = getD f 0 0; command = command-of f })) None (λ o. o ≡ Some t → Small-command (t .command))
-      (λ w d. let p : record { number = getD f 0 0; command = command-of f } ≡ t = cc in
-        subst (λ (u : Telecommand). Small-command (u .command)) p (command-small f (and-parts (all-small f) (eqb (getD f 11 0) (check-of f)) (and-parts (eqb (length f) 12) (all-small f && eqb (getD f 11 0) (check-of f)) w .1) .0)))
-      (λ w d. let z : _≡_ {A = ℕ} 0 1 = cc in absurd (omega arith)) e
+    (λ w d. let p : record { number = getD f 0 0; command = command-of f } ≡ t = cc in
+    subst (λ (u : Telecommand). Small-command (u .command)) p (command-small f (and-parts (all-small f) (eqb (getD f 11 0) (check-of f)) (and-parts (eqb (length f) 12) (all-small f && eqb (getD f 11 0) (check-of f)) w .1) .0)))
+    (λ w d. let z : _≡_ {A = ℕ} 0 1 = cc in absurd (omega arith)) e

@@ -26,8 +26,8 @@ pub obeyed-cases : (t : Telecommand) (s : State) (P : State → Type 0)
     → P (obeyed t s)
 obeyed-cases t s P did rejected other =
     cond-both (eqb (t .number) (s .expected)) (expecting-next (cond (can s (t .command)) (done s (t .command)) (rejecting s))) s P
-      (λ e. cond-both (can s (t .command)) (done s (t .command)) (rejecting s) (λ u. P (expecting-next u)) (did (eqb-true (t .number) (s .expected) e)) (rejected (eqb-true (t .number) (s .expected) e)))
-      (λ e. other (eqb-false (t .number) (s .expected) e))
+    (λ e. cond-both (can s (t .command)) (done s (t .command)) (rejecting s) (λ u. P (expecting-next u)) (did (eqb-true (t .number) (s .expected) e)) (rejected (eqb-true (t .number) (s .expected) e)))
+    (λ e. other (eqb-false (t .number) (s .expected) e))
 
 -- a tick is what it heeds in the state at reception
 pub ticked-is : (i : Inputs) (s : State) → ticked i s ≡ heeded (received i (at-reception i s)) (at-reception i s)

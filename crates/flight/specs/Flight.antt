@@ -6,7 +6,7 @@ use Prim.Native.Nat.{ℕ, _≤_, _<_}
 use lib.ListN.{length, getD}
 use Rattle.memory.specs.Threefold.{voted-words, thrice, threefold}
 use Rattle.satellite.specs.State.{State, at-launch}
-use Rattle.satellite.specs.Story.{Inputs, at-reception} 
+use Rattle.satellite.specs.Story.{Inputs, at-reception}
 use Rattle.satellite.specs.Story as satellite
 use Rattle.satellite.specs.Fit.{most}
 use Rattle.layout.specs.Map.{word-count, words-of, state-of}

@@ -32,7 +32,7 @@ Returns M = (is : List (M .Input)) → All-lawful M is → M .state (M .words (s
 pub data Flown (K : Keeper) (M : Machine) : List (M .Input) → K .Memory → Type 0 where
   launched : (left : K .Memory) → K .Holds left (M .words (M .first)) → Flown K M [] left
   ticked : (i : M .Input) (is : List (M .Input)) (kept found left : K .Memory) → Flown K M is kept → K .Upset kept found → M .Lawful i
-    → K .Holds left (M .words (M .step i (M .state (K .read found)))) → Flown K M (i ∷ is) left
+      → K .Holds left (M .words (M .step i (M .state (K .read found)))) → Flown K M (i ∷ is) left
 
 -- whatever the inputs and the upsets: what is read is the story's, and so is what was left
 pub record Flies (K : Keeper) (M : Machine) : Type 0 where

@@ -13,8 +13,14 @@ bit-back true = refl
 bit-back false = refl
 
 pub reads-back : Reads-back
-reads-back s z =
-    ((let e = z .parameters in omega arith),
-     λ i. record {
-       time = s .time; expected = s .expected; safe-mode = bit-back (s .safe-mode) i; rejected = s .rejected; missed = s .missed;
-       parameters = take-all 64 (s .parameters) (let e = z .parameters in omega arith) i })
+reads-back s z = (
+  (let e = z .parameters in omega arith),
+  λ i. record {
+    time = s .time;
+    expected = s .expected;
+    safe-mode = bit-back (s .safe-mode) i;
+    rejected = s .rejected;
+    missed = s .missed;
+    parameters = take-all 64 (s .parameters) (let e = z .parameters in omega arith) i;
+  },
+)

@@ -23,9 +23,9 @@ laid-more from i now part words a b e =
     ∙ set-append-right (take from words) (take i part ++ (getD words (from + i) 0 ∷ rest)) from (from + i) v (length-take-le from words (omega arith)) (omega arith)
     ∙ ap (λ j. take from words ++ set (take i part ++ (getD words (from + i) 0 ∷ rest)) j v) n
     ∙ ap (λ (l : List ℕ). take from words ++ l)
-        (set-at (take i part) (getD words (from + i) 0) rest v i (length-take-le i part (omega arith))
-        ∙ sym (append-assoc (take i part) (v ∷ []) rest)
-        ∙ (λ j. sym (take-more part i 0 a) j ++ drop (add-assoc from i 1 j) words))
+    (set-at (take i part) (getD words (from + i) 0) rest v i (length-take-le i part (omega arith))
+    ∙ sym (append-assoc (take i part) (v ∷ []) rest)
+    ∙ (λ j. sym (take-more part i 0 a) j ++ drop (add-assoc from i 1 j) words))
 
 pub laid-all : (from n : ℕ) (now part words : List ℕ) → length part ≤ n → Laid from n now part words → now ≡ take from words ++ (part ++ drop (from + n) words)
 laid-all from n now part words l e = e ∙ ap (λ (x : List ℕ). take from words ++ (x ++ drop (from + n) words)) (take-all n part l)
@@ -34,4 +34,4 @@ pub part-all : (from n : ℕ) (now words : List ℕ) → length now ≡ n → fr
 part-all from n now words l b h =
     let len : length (take n (drop from words)) ≡ n = length-take-le n (drop from words) (simp length-drop (omega arith)) in
     same-lists now (take n (drop from words)) (l ∙ sym len)
-      (λ k d lt. getD-default now k d 0 lt ∙ h k (omega arith) ∙ sym (getD-drop from words k 0) ∙ sym (getD-take n (drop from words) k 0 (omega arith)) ∙ getD-default (take n (drop from words)) k 0 d (omega arith))
+    (λ k d lt. getD-default now k d 0 lt ∙ h k (omega arith) ∙ sym (getD-drop from words k 0) ∙ sym (getD-take n (drop from words) k 0 (omega arith)) ∙ getD-default (take n (drop from words)) k 0 d (omega arith))

@@ -30,8 +30,13 @@ words-of s = head-words s ++ s .parameters
 
 abbrev pub state-of : List ℕ → State
 state-of ws = record {
-    time = getD ws 0 0; expected = getD ws 1 0; safe-mode = eqb (getD ws 2 0) 1; rejected = getD ws 3 0; missed = getD ws 4 0;
-    parameters = take 64 (drop 5 ws) }
+  time = getD ws 0 0;
+  expected = getD ws 1 0;
+  safe-mode = eqb (getD ws 2 0) 1;
+  rejected = getD ws 3 0;
+  missed = getD ws 4 0;
+  parameters = take 64 (drop 5 ws);
+}
 
 -- the lists of a state are as long as their room in memory
 pub record Sized (s : State) : Type 0 where

@@ -15,10 +15,15 @@ pub const WORDS: usize = 69;
 
 // Where each of them lies.
 const TIME: usize = 0;
+
 const EXPECTED: usize = 1;
+
 const SAFE_MODE: usize = 2;
+
 const REJECTED: usize = 3;
+
 const MISSED: usize = 4;
+
 const PARAMETERS: usize = 5;
 
 // The largest number that a flight of fewer than 2^62 ticks can leave.
@@ -48,7 +53,9 @@ pub fn satellite(words: &[u64]) -> Satellite
         safe_mode: words[SAFE_MODE] == 1,
         rejected: words[REJECTED],
         missed: words[MISSED],
-        parameters: Parameters { values: part::<PLACES>(words, PARAMETERS) },
+        parameters: Parameters {
+            values: part::<PLACES>(words, PARAMETERS),
+        },
     }
 }
 

@@ -6,6 +6,7 @@ ghost use Rattle.parameters.specs.Places.{may-put, read-in};
 
 /// How many parameters there are, and how many of them are instruments.
 pub const PLACES: usize = 64;
+
 pub const INSTRUMENTS: usize = 16;
 
 #[derive(Clone, Copy)]
@@ -25,7 +26,9 @@ impl Parameters {
     pub fn at_launch() -> Parameters
         ensures { λ r. ⌜ r .values ≡ replicate 64 0 ⌝ }
     {
-        Parameters { values: [0; PLACES] }
+        Parameters {
+            values: [0; PLACES],
+        }
     }
 
     /// The first sixteen become what the instruments read.

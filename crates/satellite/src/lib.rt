@@ -33,7 +33,14 @@ impl Satellite {
     pub fn at_launch() -> Satellite
         ensures { λ r. ⌜ model r ≡ at-launch ⌝ }
     {
-        Satellite { time: 0, expected: 0, safe_mode: true, rejected: 0, missed: 0, parameters: Parameters::at_launch() }
+        Satellite {
+            time: 0,
+            expected: 0,
+            safe_mode: true,
+            rejected: 0,
+            missed: 0,
+            parameters: Parameters::at_launch(),
+        }
     }
 
     /// One tick: time and readings, then the command of the frame that came up, if it is whole.
@@ -55,7 +62,11 @@ impl Satellite {
         requires { ⌜ self .time ≤ most ⌝ }
         ensures { λ r. ⌜ model r ≡ begun (now (readings .entry)) (model self) ⌝ }
     {
-        Satellite { time: self.time + 1, parameters: self.parameters.read(readings), ..self }
+        Satellite {
+            time: self.time + 1,
+            parameters: self.parameters.read(readings),
+            ..self
+        }
     }
 
     /// The expected command is done or counted as rejected, and then the next one is expected.
@@ -71,7 +82,10 @@ impl Satellite {
         let mut satellite = if self.can(telecommand.command) {
             self.done(telecommand.command)
         } else {
-            Satellite { rejected: self.rejected + 1, ..self }
+            Satellite {
+                rejected: self.rejected + 1,
+                ..self
+            }
         };
         satellite.expected += 1;
         satellite
@@ -94,9 +108,18 @@ impl Satellite {
         ensures { λ r. ⌜ model r ≡ done (model self) command ⌝ }
     {
         match command {
-            Command::Put { place, number } => Satellite { parameters: self.parameters.put(place, number), ..self },
-            Command::Sleep => Satellite { safe_mode: true, ..self },
-            Command::Wake => Satellite { safe_mode: false, ..self },
+            Command::Put { place, number } => Satellite {
+                parameters: self.parameters.put(place, number),
+                ..self
+            },
+            Command::Sleep => Satellite {
+                safe_mode: true,
+                ..self
+            },
+            Command::Wake => Satellite {
+                safe_mode: false,
+                ..self
+            },
             Command::Unknown { .. } => self,
         }
     }

@@ -7,8 +7,15 @@ use Rattle.telemetry.specs.declared.Report.{Report}
 
 abbrev pub report-of : State → Report
 report-of s = record {
-    time = s .time; expected = s .expected; «safe_mode» = s .safe-mode; rejected = s .rejected; missed = s .missed; waiting = 0;
-    first = parameter s 0; second = parameter s 1 }
+  time = s .time;
+  expected = s .expected;
+  «safe_mode» = s .safe-mode;
+  rejected = s .rejected;
+  missed = s .missed;
+  waiting = 0;
+  first = parameter s 0;
+  second = parameter s 1;
+}
 
 -- in safe mode the third number is 1, else 0
 abbrev pub numbers-of : Report → List ℕ

@@ -43,6 +43,15 @@ impl Report {
         ensures { λ r. ⌜ r ≡ numbers-of self ⌝ }
     {
         let safe_mode = if self.safe_mode { 1 } else { 0 };
-        [self.time, self.expected, safe_mode, self.rejected, self.missed, self.waiting, self.first, self.second]
+        [
+            self.time,
+            self.expected,
+            safe_mode,
+            self.rejected,
+            self.missed,
+            self.waiting,
+            self.first,
+            self.second,
+        ]
     }
 }
