@@ -1,0 +1,39 @@
+-- Activities that wait for their time, in the order in which they came.
+use mathlib.Core.Bool.{Bool, cond}
+use mathlib.Core.List.{List, [], _∷_, _++_}
+use Prim.Native.Nat.{ℕ, zero, suc, _<_}
+use lib.Dec.{eqb}
+use lib.ListN.{length, getD, set}
+use Rattle.schedule.specs.declared.activity.Activity.{Activity}
+use Rattle.schedule.specs.declared.waiting.Schedule.{Schedule}
+
+-- the activity that stands where there is none
+abbrev pub no-activity : Activity
+no-activity = record { release = 0; place = 0; number = 0 }
+
+-- the first n of a list
+abbrev pub first : ℕ → List Activity → List Activity
+first zero xs = []
+first (suc n) xs = first n xs ++ (getD xs n no-activity ∷ [])
+
+-- the activities that wait in a schedule of the code
+abbrev pub waiting : Schedule → List Activity
+waiting s = first (s .count) (s .activities)
+
+-- those whose time it is, and those that wait on, both in their order
+abbrev pub due : ℕ → List Activity → List Activity
+due now [] = []
+due now (a ∷ xs) = cond (eqb (a .release) now) (a ∷ due now xs) (due now xs)
+
+abbrev pub still-waiting : ℕ → List Activity → List Activity
+still-waiting now [] = []
+still-waiting now (a ∷ xs) = cond (eqb (a .release) now) (still-waiting now xs) (a ∷ still-waiting now xs)
+
+-- each puts its number at its place, one after the other
+abbrev pub put-all : List Activity → List ℕ → List ℕ
+put-all [] values = values
+put-all (a ∷ xs) values = put-all xs (set values (a .place) (a .number))
+
+-- every activity is for a place that there is
+abbrev pub Placed : List Activity → Type 0
+Placed xs = (k : ℕ) → k < length xs → getD xs k no-activity .place < 64

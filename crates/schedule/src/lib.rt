@@ -1,0 +1,9 @@
+//! The schedule: activities that wait for their time, released in the tick that they name.
+mod activity;
+mod release;
+mod waiting;
+
+pub use activity::Activity;
+pub use release::ROOM;
+pub use release::Released;
+pub use waiting::Schedule;

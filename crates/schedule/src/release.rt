@@ -1,0 +1,92 @@
+ghost use mathlib.Core.Path.{_≡_};
+ghost use mathlib.Core.Bool.{cond};
+ghost use mathlib.Core.List.{[], _∷_, _++_};
+ghost use Prim.Native.Nat.{_<_, _≤_};
+ghost use lib.Dec.{leb};
+ghost use lib.ListN.{length};
+ghost use Rattle.schedule.specs.Waiting.{waiting, due, still-waiting, put-all, Placed};
+use crate::activity::Activity;
+use crate::waiting::Schedule;
+use parameters::Parameters;
+
+/// How many activities can wait.
+pub const ROOM: usize = 32;
+
+const NO_ACTIVITY: Activity = Activity {
+    release: 0,
+    place: 0,
+    number: 0,
+};
+
+/// What the release of a tick's due activities leaves.
+#[derive(Clone, Copy)]
+pub struct Released {
+    pub schedule: Schedule,
+    pub parameters: Parameters,
+    /// How many came due in safe mode.
+    pub missed: u64,
+}
+
+impl Schedule {
+    /// Nothing waits.
+    pub fn empty() -> Schedule
+        ensures { λ r. ⌜ waiting r ≡ [] ⌝ }
+    {
+        Schedule {
+            activities: [NO_ACTIVITY; ROOM],
+            count: 0,
+        }
+    }
+
+    /// Whether no more activity can wait.
+    pub fn is_full(&self) -> bool
+        ensures { λ r. ⌜ r ≡ leb 32 (length (waiting (now (self .entry)))) ⌝ }
+    {
+        self.count >= ROOM
+    }
+
+    /// One more activity waits, behind the others.
+    pub fn add(self, activity: Activity) -> Schedule
+        requires { ⌜ length (waiting self) < 32 ⌝ }
+        ensures { λ r. ⌜ waiting r ≡ waiting self ++ (activity ∷ []) ⌝ }
+    {
+        let mut activities = self.activities;
+        activities[self.count] = activity;
+        Schedule {
+            activities,
+            count: self.count + 1,
+        }
+    }
+
+    /// The due activities put their numbers, one after the other, or are missed in safe mode; either way they are gone.
+    pub fn release(self, time: u64, safe_mode: bool, parameters: Parameters) -> Released
+        requires { ⌜ Placed (waiting self) ⌝ }
+        ensures waiting { λ r. ⌜ waiting (r .schedule) ≡ still-waiting time (waiting self) ⌝ }
+        ensures put { λ r. ⌜ r .parameters .values ≡ cond «safe_mode» (parameters .values) (put-all (due time (waiting self)) (parameters .values)) ⌝ }
+        ensures missed { λ r. ⌜ r .missed ≡ cond «safe_mode» (length (due time (waiting self))) 0 ⌝ }
+    {
+        let mut activities = self.activities;
+        let mut values = parameters.values;
+        let mut stays = 0;
+        let mut missed = 0;
+        for k in 0..self.count {
+            let activity = activities[k];
+            if activity.release != time {
+                activities[stays] = activity;
+                stays += 1;
+            } else if safe_mode {
+                missed += 1;
+            } else {
+                values[activity.place as usize] = activity.number;
+            }
+        }
+        Released {
+            schedule: Schedule {
+                activities,
+                count: stays,
+            },
+            parameters: Parameters { values },
+            missed,
+        }
+    }
+}
