@@ -3,7 +3,15 @@ ghost use mathlib.Core.Path.{_≡_};
 ghost use mathlib.Core.Bool.{true};
 ghost use lib.ListN.{length, getD};
 ghost use Rattle.std.specs.declared.option.Option.the-variants.{Some};
-ghost use Rattle.frame.specs.Frame.{all-small, weighed, check-of, is-whole, command-of, decoded, kind-of, body, encodable, encoded, encoding, is-kind};
+ghost use Rattle.frame.specs.Frame.{all-small, check-of, is-whole, command-of, rule-of, decoded, bit, body, encodable, encoded, encoding, is-kind};
+use rules::Rule;
+use rules::RuleDebug;
+use rules::RuleEq;
+use rules::RulePartialEq;
+use schedule::Activity;
+use schedule::ActivityDebug;
+use schedule::ActivityEq;
+use schedule::ActivityPartialEq;
 
 /// How many numbers a frame has.
 pub const LENGTH: usize = 12;
@@ -18,10 +26,16 @@ const MODULUS: u64 = 65521;
 pub enum Command {
     /// A number is put at a place among the parameters.
     Put { place: u64, number: u64 },
+    /// An activity waits for its time.
+    Later { activity: Activity },
+    /// Nothing waits any more.
+    Forget,
     /// Safe mode begins.
     Sleep,
     /// Safe mode ends.
     Wake,
+    /// A rule is set, and begins from 0.
+    SetRule { index: u64, rule: Rule },
     /// A command of no known kind: it can never be done.
     Unknown { kind: u64 },
 }
@@ -100,9 +114,37 @@ fn command_in(frame: &[u64]) -> Command
             place: frame[2],
             number: frame[3],
         },
+        1 => Command::Later {
+            activity: Activity {
+                release: frame[2],
+                place: frame[3],
+                number: frame[4],
+            },
+        },
+        2 => Command::Forget,
         3 => Command::Sleep,
         4 => Command::Wake,
+        5 => Command::SetRule {
+            index: frame[2],
+            rule: rule_in(frame),
+        },
         kind => Command::Unknown { kind },
+    }
+}
+
+// The rule that arguments say; a mark is set by 1 and by nothing else.
+fn rule_in(frame: &[u64]) -> Rule
+    requires { ⌜ length (now frame) ≡ 12 ⌝ }
+    ensures { λ r. ⌜ r ≡ rule-of (now (frame .entry)) ⌝ }
+{
+    Rule {
+        watches: frame[3],
+        limit: frame[4],
+        upward: frame[5] == 1,
+        needs: frame[6],
+        safes: frame[7] == 1,
+        place: frame[8],
+        number: frame[9],
     }
 }
 
@@ -113,10 +155,32 @@ fn unchecked(telecommand: Telecommand) -> [u64; 12]
     let n = telecommand.number;
     match telecommand.command {
         Command::Put { place, number } => [n, 0, place, number, 0, 0, 0, 0, 0, 0, 0, 0],
+        Command::Later { activity } => [n, 1, activity.release, activity.place, activity.number, 0, 0, 0, 0, 0, 0, 0],
+        Command::Forget => [n, 2, 0, 0, 0, 0, 0, 0, 0, 0, 0, 0],
         Command::Sleep => [n, 3, 0, 0, 0, 0, 0, 0, 0, 0, 0, 0],
         Command::Wake => [n, 4, 0, 0, 0, 0, 0, 0, 0, 0, 0, 0],
+        Command::SetRule { index, rule } => [
+            n,
+            5,
+            index,
+            rule.watches,
+            rule.limit,
+            mark(rule.upward),
+            rule.needs,
+            mark(rule.safes),
+            rule.place,
+            rule.number,
+            0,
+            0,
+        ],
         Command::Unknown { kind } => [n, kind, 0, 0, 0, 0, 0, 0, 0, 0, 0, 0],
     }
+}
+
+fn mark(b: bool) -> u64
+    ensures { λ r. ⌜ r ≡ bit b ⌝ }
+{
+    if b { 1 } else { 0 }
 }
 
 // Whether its kind in a frame would be read as this command.
@@ -124,7 +188,7 @@ fn of_its_kind(command: Command) -> bool
     ensures { λ r. ⌜ r ≡ is-kind command ⌝ }
 {
     match command {
-        Command::Unknown { kind } => kind != 0 && kind != 3 && kind != 4,
+        Command::Unknown { kind } => kind > 5,
         _ => true,
     }
 }
