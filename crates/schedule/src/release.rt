@@ -64,6 +64,7 @@ impl Schedule {
         ensures waiting { λ r. ⌜ waiting (r .schedule) ≡ still-waiting time (waiting self) ⌝ }
         ensures put { λ r. ⌜ r .parameters .values ≡ cond «safe_mode» (parameters .values) (put-all (due time (waiting self)) (parameters .values)) ⌝ }
         ensures missed { λ r. ⌜ r .missed ≡ cond «safe_mode» (length (due time (waiting self))) 0 ⌝ }
+        ensures few { λ r. ⌜ r .missed ≤ 32 ⌝ }
     {
         let mut activities = self.activities;
         let mut values = parameters.values;
