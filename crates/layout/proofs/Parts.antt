@@ -5,6 +5,7 @@ use Prim.Native.Nat.{ℕ, _+_, _-_, _≤_, _<_}
 use native.Mathlib.Nat.{add-zero, add-assoc}
 use native.Mathlib.Omega.{arith}
 use lib.ListN.{length, getD, set, take, drop, take-append-drop}
+use Rattle.std.proofs.shelf.Edits.{fill-by-more}
 use Rattle.std.proofs.shelf.Lists.{append-assoc, drop-more, length-take-le, length-drop, set-at, set-append-right, take-all, take-more, same-lists, getD-default, getD-take, getD-drop}
 
 -- the first i numbers of a part stand in the words, from a place on
@@ -35,3 +36,7 @@ part-all from n now words l b h =
     let len : length (take n (drop from words)) ≡ n = length-take-le n (drop from words) (simp length-drop (omega arith)) in
     same-lists now (take n (drop from words)) (l ∙ sym len)
     (λ k d lt. getD-default now k d 0 lt ∙ h k (omega arith) ∙ sym (getD-drop from words k 0) ∙ sym (getD-take n (drop from words) k 0 (omega arith)) ∙ getD-default (take n (drop from words)) k 0 d (omega arith))
+
+-- one more place of an array is what it should be
+pub filled-more : {X : Type 0} (f : ℕ → X) (xs : List X) (k : ℕ) (v d : X) → k < length xs → v ≡ f k → ((i : ℕ) → i < k → getD xs i d ≡ f i) → (i : ℕ) → i < k + 1 → getD (set xs k v) i d ≡ f i
+filled-more f xs k v d l e h i lt = ap (λ x. getD (set xs k x) i d) e ∙ fill-by-more f xs k d l h i lt

@@ -1,7 +1,7 @@
 use mathlib.Core.Path.{sym, _∙_}
 use native.Mathlib.Omega.{arith}
 use borrow.Author.Count.{below-more}
-use Rattle.layout.proofs.fault.Needs as need
+use Rattle.layout.proofs.checks.fault.Needs as need
 
 pub returns-then-at-fault : need.returns-then-at-fault
 returns-then-at-fault c = (omega arith, sym (c .at-fault .ensures) ∙ c .if-at-fault .taken, c .loop-k .inv)

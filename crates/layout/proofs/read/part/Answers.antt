@@ -4,7 +4,7 @@ use native.Mathlib.Omega.{arith}
 use lib.ListN.{getD, length-set, length-replicate}
 use Rattle.std.proofs.shelf.Edits.{fill-by-more}
 use Rattle.layout.proofs.Parts.{part-all}
-use Rattle.layout.proofs.part.Needs as need
+use Rattle.layout.proofs.read.part.Needs as need
 
 pub loop-i-holds : need.loop-i-holds
 loop-i-holds g c = (length-replicate (g .M) 0, λ j h. absurd (omega arith))
