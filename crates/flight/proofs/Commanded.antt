@@ -8,22 +8,25 @@ use Rattle.std.specs.declared.option.Option.{Option}
 use Rattle.std.specs.declared.option.Option.the-variants.{Some, None}
 use Rattle.std.proofs.shelf.Tests.{eq-eqb, ne-eqb, cond-true, cond-false, true≢false}
 use Rattle.frame.specs.declared.Command.{Command}
-use Rattle.frame.specs.declared.Command.the-variants.{Put, Sleep, Wake, Unknown}
+use Rattle.frame.specs.declared.Command.the-variants.{Put, Later, Forget, Sleep, Wake, SetRule, Unknown}
 use Rattle.frame.specs.declared.Telecommand.{Telecommand}
 use Rattle.satellite.specs.State.{State}
 use Rattle.satellite.specs.Story.{Inputs, can, done, obeyed, received, heeded, at-reception, ticked}
 use Rattle.flight.specs.Flight.{after}
 use Rattle.flight.specs.Commanding.{heard, Turn, From-ground, obeyed-with, obeyed-in, first-sent, Each-once, Comes-through, Safe-at-once}
-use Rattle.flight.proofs.Steps.{obeyed-cases, ticked-cases, ticked-heard, reception-only}
+use Rattle.flight.proofs.Steps.{obeyed-cases, ticked-cases, ticked-heard, Reception, reception}
 
 -- until reception the same command is expected
 pub expected-kept : (i : Inputs) (s : State) → at-reception i s .expected ≡ s .expected
-expected-kept i s = ap (λ (u : State). u .expected) (reception-only i s)
+expected-kept i s = reception i s .expected
 
 done-expected : (s : State) (c : Command) → done s c .expected ≡ s .expected
 done-expected s (Put a b) = refl
+done-expected s (Later a) = refl
+done-expected s Forget = refl
 done-expected s Sleep = refl
 done-expected s Wake = refl
+done-expected s (SetRule k r) = refl
 done-expected s (Unknown k) = refl
 
 -- a command whose turn it is moves the expected number on by one, any other leaves it

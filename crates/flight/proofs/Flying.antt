@@ -12,7 +12,7 @@ use Rattle.satellite.specs.Story.{Inputs}
 use Rattle.satellite.specs.Story as satellite
 use Rattle.flight.specs.Machine.{Machine, story, All-lawful, none, more, Returns, Flown, launched, ticked, Flies, Always-flies}
 use Rattle.flight.specs.Flight.{Lawful, machine, after, Flew, Flies-right, Carries-on}
-use Rattle.flight.proofs.Bounds.{after-sized}
+use Rattle.flight.proofs.Sound.{after-sized}
 
 pub all-lawful : (K : Keeper) (M : Machine) (is : List (M .Input)) (kept : K .Memory) → Flown K M is kept → All-lawful M is
 all-lawful K M is kept (launched left holds) = none

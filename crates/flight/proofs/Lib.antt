@@ -1,7 +1,11 @@
 pub mod Steps
+pub mod Waits
+pub mod Sound
 pub mod Received
 pub mod Bounds
 pub mod Flying
 pub mod Fitting
 pub mod Commanded
 pub mod Effected
+pub mod Scheduled
+pub mod Protected

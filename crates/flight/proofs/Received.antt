@@ -11,21 +11,38 @@ use Rattle.std.specs.declared.option.Option.{Option}
 use Rattle.std.specs.declared.option.Option.the-variants.{Some, None}
 use Rattle.std.proofs.shelf.Tests.{and-parts, cases-lt, cond-both}
 use Rattle.std.proofs.shelf.Lists.{getD-past}
+use Rattle.schedule.specs.declared.activity.Activity.{Activity}
+use Rattle.rules.specs.declared.rule.Rule.{Rule}
 use Rattle.frame.specs.declared.Command.{Command}
-use Rattle.frame.specs.declared.Command.the-variants.{Put, Sleep, Wake, Unknown}
+use Rattle.frame.specs.declared.Command.the-variants.{Put, Later, Forget, Sleep, Wake, SetRule, Unknown}
 use Rattle.frame.specs.declared.Telecommand.{Telecommand}
-use Rattle.frame.specs.Frame.{all-small, check-of, is-whole, command-of, decoded}
+use Rattle.frame.specs.Frame.{all-small, check-of, is-whole, rule-of, command-of, decoded}
 use Rattle.frame.proofs.Smallness.{each-small}
 
 -- a number that a frame can carry
 abbrev pub Small : ℕ → Type 0
 Small n = n ≤ 4294967295
 
+pub record Small-rule (r : Rule) : Type 0 where
+  pub watches : Small (r .watches)
+  pub limit : Small (r .limit)
+  pub needs : Small (r .needs)
+  pub place : Small (r .place)
+  pub number : Small (r .number)
+
+pub record Small-activity (a : Activity) : Type 0 where
+  pub release : Small (a .release)
+  pub place : Small (a .place)
+  pub number : Small (a .number)
+
 -- the numbers that a command leaves in the state
 abbrev pub Small-command : Command → Type 0
 Small-command (Put place number) = Small number
+Small-command (Later a) = Small-activity a
+Small-command Forget = Unit {0}
 Small-command Sleep = Unit {0}
 Small-command Wake = Unit {0}
+Small-command (SetRule k r) = Small-rule r
 Small-command (Unknown kind) = Unit {0}
 
 small-at : (f : List ℕ) → all-small f ≡ true → (k : ℕ) → Small (getD f k 0)
@@ -35,7 +52,14 @@ either : (b : Bool) (x y : Command) → Small-command x → Small-command y → 
 either b x y p q = cond-both b x y Small-command (λ _. p) (λ _. q)
 
 command-small : (f : List ℕ) → all-small f ≡ true → Small-command (command-of f)
-command-small f s = either (eqb (getD f 1 0) 0) (Put (getD f 2 0) (getD f 3 0)) _ (small-at f s 3) (either (eqb (getD f 1 0) 3) Sleep _ tt (either (eqb (getD f 1 0) 4) Wake (Unknown (getD f 1 0)) tt tt))
+command-small f s =
+    let g = small-at f s in
+    either (eqb (getD f 1 0) 0) (Put (getD f 2 0) (getD f 3 0)) _ (g 3)
+    (either (eqb (getD f 1 0) 1) (Later (record { release = getD f 2 0; place = getD f 3 0; number = getD f 4 0 })) _ (record { release = g 2; place = g 3; number = g 4 })
+    (either (eqb (getD f 1 0) 2) Forget _ tt
+    (either (eqb (getD f 1 0) 3) Sleep _ tt
+    (either (eqb (getD f 1 0) 4) Wake _ tt
+    (either (eqb (getD f 1 0) 5) (SetRule (getD f 2 0) (rule-of f)) (Unknown (getD f 1 0)) (record { watches = g 3; limit = g 4; needs = g 6; place = g 8; number = g 9 }) tt)))))
 
 pub decoded-small : (f : List ℕ) (t : Telecommand) → decoded f ≡ Some t → Small-command (t .command)
 decoded-small f t e =

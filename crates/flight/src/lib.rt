@@ -1,7 +1,9 @@
 //! The theorems over every flight, each carried by the contract of a function.
 ghost use Rattle.flight.specs.Flight.{Flies-right, Never-refused, Carries-on};
 ghost use Rattle.flight.specs.Commanding.{Each-once, Comes-through, Safe-at-once};
-ghost use Rattle.flight.specs.Effects.{Commands-act, Else-ignored, Begins-right, Reads-right, Keeps-64, Time-right, Rejected-right, Missed-right, Launches-right};
+ghost use Rattle.flight.specs.Effects.{Commands-act, Else-ignored, Tick-keeps, Reads-right, Keeps-sizes, Time-right, Rejected-right, Launches-right};
+ghost use Rattle.flight.specs.Scheduling.{Parts-in-tick, Never-late, Kept-till-due, Put-when-due, Else-kept, Missed-in-safe-mode, Missed-right};
+ghost use Rattle.flight.specs.Protecting.{Past-right, Counts-right, Instruments-right, Begins-anew, Acts-just-then, Safe-by-rules, Rules-put, Else-untouched};
 
 /// Whatever the readings, the frames and the upsets, what memory holds is the story's.
 pub fn flies_right() -> u8
@@ -59,9 +61,9 @@ pub fn else_ignored() -> u8
     0
 }
 
-/// Until its command, a tick changes the time and the parameters that are read.
-pub fn begins_right() -> u8
-    ensures { λ _. ⌜ Begins-right ⌝ }
+/// What a tick leaves as it was, whatever comes up.
+pub fn tick_keeps() -> u8
+    ensures { λ _. ⌜ Tick-keeps ⌝ }
 {
     0
 }
@@ -73,9 +75,9 @@ pub fn reads_right() -> u8
     0
 }
 
-/// There are always 64 parameters.
-pub fn keeps_64() -> u8
-    ensures { λ _. ⌜ Keeps-64 ⌝ }
+/// Never more than 32 activities, and always 64 parameters and 16 rules.
+pub fn keeps_sizes() -> u8
+    ensures { λ _. ⌜ Keeps-sizes ⌝ }
 {
     0
 }
@@ -94,16 +96,114 @@ pub fn rejected_right() -> u8
     0
 }
 
-/// Nothing is missed while nothing can be scheduled.
+/// The state at launch, in words.
+pub fn launches_right() -> u8
+    ensures { λ _. ⌜ Launches-right ⌝ }
+{
+    0
+}
+
+/// In each tick the due activities are gone, the others wait on in their order.
+pub fn parts_in_tick() -> u8
+    ensures { λ _. ⌜ Parts-in-tick ⌝ }
+{
+    0
+}
+
+/// No activity is kept past its time.
+pub fn never_late() -> u8
+    ensures { λ _. ⌜ Never-late ⌝ }
+{
+    0
+}
+
+/// What waits on is touched by no command but forget, and later adds one behind.
+pub fn kept_till_due() -> u8
+    ensures { λ _. ⌜ Kept-till-due ⌝ }
+{
+    0
+}
+
+/// The last due activity for a place has put its number, outside safe mode.
+pub fn put_when_due() -> u8
+    ensures { λ _. ⌜ Put-when-due ⌝ }
+{
+    0
+}
+
+/// A place for which no activity is due keeps what it held.
+pub fn else_kept() -> u8
+    ensures { λ _. ⌜ Else-kept ⌝ }
+{
+    0
+}
+
+/// In safe mode each due activity is counted as missed and changes no parameter.
+pub fn missed_in_safe_mode() -> u8
+    ensures { λ _. ⌜ Missed-in-safe-mode ⌝ }
+{
+    0
+}
+
+/// Missed counts what it should over the whole flight.
 pub fn missed_right() -> u8
     ensures { λ _. ⌜ Missed-right ⌝ }
 {
     0
 }
 
-/// The state at launch, in words.
-pub fn launches_right() -> u8
-    ensures { λ _. ⌜ Launches-right ⌝ }
+/// Past its limit, in words, at the limit and one off it.
+pub fn past_right() -> u8
+    ensures { λ _. ⌜ Past-right ⌝ }
+{
+    0
+}
+
+/// The count of a rule: for how many of the latest ticks what it saw was past.
+pub fn counts_right() -> u8
+    ensures { λ _. ⌜ Counts-right ⌝ }
+{
+    0
+}
+
+/// The same of an instrument, by what was read.
+pub fn instruments_right() -> u8
+    ensures { λ _. ⌜ Instruments-right ⌝ }
+{
+    0
+}
+
+/// A rule that is set begins from 0.
+pub fn begins_anew() -> u8
+    ensures { λ _. ⌜ Begins-anew ⌝ }
+{
+    0
+}
+
+/// A rule acts just when its count becomes what it needs, else only its count changes.
+pub fn acts_just_then() -> u8
+    ensures { λ _. ⌜ Acts-just-then ⌝ }
+{
+    0
+}
+
+/// Safe mode by a rule is had in that very tick, before the activities.
+pub fn safe_by_rules() -> u8
+    ensures { λ _. ⌜ Safe-by-rules ⌝ }
+{
+    0
+}
+
+/// The last rule that acts for a place has put its number.
+pub fn rules_put() -> u8
+    ensures { λ _. ⌜ Rules-put ⌝ }
+{
+    0
+}
+
+/// Nothing else changes a parameter.
+pub fn else_untouched() -> u8
+    ensures { λ _. ⌜ Else-untouched ⌝ }
 {
     0
 }

@@ -31,7 +31,14 @@ is-whole f = eqb (length f) 12 && (all-small f && eqb (getD f 11 0) (check-of f)
 -- the second number is the kind, the nine after it are arguments; a mark is set by 1 and by nothing else
 abbrev pub rule-of : List ℕ → Rule
 rule-of f = record {
-    watches = getD f 3 0; limit = getD f 4 0; upward = eqb (getD f 5 0) 1; needs = getD f 6 0; safes = eqb (getD f 7 0) 1; place = getD f 8 0; number = getD f 9 0 }
+  watches = getD f 3 0;
+  limit = getD f 4 0;
+  upward = eqb (getD f 5 0) 1;
+  needs = getD f 6 0;
+  safes = eqb (getD f 7 0) 1;
+  place = getD f 8 0;
+  number = getD f 9 0;
+}
 
 abbrev pub command-of : List ℕ → Command
 command-of f =

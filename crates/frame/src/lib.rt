@@ -155,7 +155,20 @@ fn unchecked(telecommand: Telecommand) -> [u64; 12]
     let n = telecommand.number;
     match telecommand.command {
         Command::Put { place, number } => [n, 0, place, number, 0, 0, 0, 0, 0, 0, 0, 0],
-        Command::Later { activity } => [n, 1, activity.release, activity.place, activity.number, 0, 0, 0, 0, 0, 0, 0],
+        Command::Later { activity } => [
+            n,
+            1,
+            activity.release,
+            activity.place,
+            activity.number,
+            0,
+            0,
+            0,
+            0,
+            0,
+            0,
+            0,
+        ],
         Command::Forget => [n, 2, 0, 0, 0, 0, 0, 0, 0, 0, 0, 0],
         Command::Sleep => [n, 3, 0, 0, 0, 0, 0, 0, 0, 0, 0, 0],
         Command::Wake => [n, 4, 0, 0, 0, 0, 0, 0, 0, 0, 0, 0],

@@ -70,8 +70,16 @@ unfolding state-of
 state-back s z =
     let h = heads-back s in
     λ i. record {
-      time = h .0 i; expected = h .1 i; safe-mode = safe-mode-back s i; rejected = h .2 i; missed = h .3 i; parameters = parameter-words s z i;
-      schedule = schedule-back s z i; rules = rules-back s z i; counts = count-words s z i }
+      time = h .0 i;
+      expected = h .1 i;
+      safe-mode = safe-mode-back s i;
+      rejected = h .2 i;
+      missed = h .3 i;
+      parameters = parameter-words s z i;
+      schedule = schedule-back s z i;
+      rules = rules-back s z i;
+      counts = count-words s z i;
+    }
 
 pub reads-back : Reads-back
 reads-back s z = (length-words s z, state-back s z)

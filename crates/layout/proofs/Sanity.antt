@@ -50,15 +50,16 @@ sane-of ws h =
       placed = λ i lt. let p = after-most (getD ws (71 + 3 * i) 0) _ (sym (activity-place ws (71 + 3 * i) i 1 (omega arith) (omega arith) (omega arith)) ∙ h (71 + 3 * i) (omega arith)) in place-facts i (getD ws 69 0) (may-put (getD ws (71 + 3 * i) 0)) (p .1) lt;
       watches = λ i lt. let p = after-most (getD ws (166 + 7 * i) 0) _ (sym (rule-place ws (166 + 7 * i) i 0 (omega arith) (omega arith) lt) ∙ h (166 + 7 * i) (omega arith)) in leb-false 64 (getD ws (166 + 7 * i) 0) (p .1);
       puts = λ i lt.
-        let p = after-most (getD ws (171 + 7 * i) 0) _ (sym (rule-place ws (171 + 7 * i) i 5 (omega arith) (omega arith) lt) ∙ h (171 + 7 * i) (omega arith)) in
-        let a : 171 + 7 * i - 2 ≡ 169 + 7 * i = omega arith in
-        let b : 171 + 7 * i - 1 ≡ 170 + 7 * i = omega arith in
-        rule-facts (getD ws (169 + 7 * i) 0) (eqb (getD ws (170 + 7 * i) 0) 1) (may-put (getD ws (171 + 7 * i) 0)) (simp (a, b) at (p .1)) }
+          let p = after-most (getD ws (171 + 7 * i) 0) _ (sym (rule-place ws (171 + 7 * i) i 5 (omega arith) (omega arith) lt) ∙ h (171 + 7 * i) (omega arith)) in
+          let a : 171 + 7 * i - 2 ≡ 169 + 7 * i = omega arith in
+          let b : 171 + 7 * i - 1 ≡ 170 + 7 * i = omega arith in
+          rule-facts (getD ws (169 + 7 * i) 0) (eqb (getD ws (170 + 7 * i) 0) 1) (may-put (getD ws (171 + 7 * i) 0)) (simp (a, b) at (p .1));
+    }
 
 activity-none : (a b j x t : ℕ) (m : Bool) → (a < b → j ≡ 0 → t < x) → (a < b → j ≡ 1 → m ≡ true) → (ltb a b && cond (eqb j 0) (leb x t) (eqb j 1 && not m)) ≡ false
 activity-none a b j x t m f g =
     ⊎-elim (λ lt. and-right (ltb a b) (cond (eqb j 0) (leb x t) (eqb j 1 && not m)) (⊎-elim (λ e. let h = f lt e in grind (arith, tells)) (λ ne. ⊎-elim (λ e. let h = g lt e in grind (arith, tells)) (λ nf. grind (arith, tells)) (cases-eq j 1)) (cases-eq j 0)))
-      (λ le. and-left _ _ (le-ltb _ _ le)) (cases-lt a b)
+    (λ le. and-left _ _ (le-ltb _ _ le)) (cases-lt a b)
 
 rule-none : (j x n : ℕ) (r m : Bool) → (j ≡ 0 → x < 64) → (j ≡ 5 → (n ≡ 0) ⊎ ((r ≡ true) ⊎ (m ≡ true))) → cond (eqb j 0) (leb 64 x) (eqb j 5 && (leb 1 n && (not r && not m))) ≡ false
 rule-none j x n r m f g =
@@ -70,19 +71,19 @@ below-most x b h e = grind (arith, tells)
 pub faultless-of : (ws : List ℕ) → Sane ws → Faultless ws
 faultless-of ws f k lt =
     below-most (getD ws k 0) _ (f .small k lt)
-      (⊎-elim (λ e. rw e (le-ltb 32 (getD ws 69 0) (f .few)))
-        (λ ne. rw (ne-eqb k 69 ne) (⊎-elim (λ a. rw (lt-ltb k 70 a) refl)
-          (λ a. rw (le-ltb k 70 a) (⊎-elim
-            (λ b. rw (lt-ltb k 166 b) (activity-none ((k - 70) / 3) (getD ws 69 0) ((k - 70) % 3) (getD ws k 0) (getD ws 0 0) (may-put (getD ws k 0))
-              (λ i j. let s : 70 + 3 * ((k - 70) / 3) ≡ k = omega arith in rw s at (f .later ((k - 70) / 3) i))
-              (λ i j. let s : 71 + 3 * ((k - 70) / 3) ≡ k = omega arith in rw s at (f .placed ((k - 70) / 3) i))))
-            (λ b. rw (le-ltb k 166 b) (⊎-elim
-              (λ d. rw (lt-ltb k 278 d) (rule-none ((k - 166) % 7) (getD ws k 0) (getD ws (k - 2) 0) (eqb (getD ws (k - 1) 0) 1) (may-put (getD ws k 0))
-                (λ j. let s : 166 + 7 * ((k - 166) / 7) ≡ k = omega arith in rw s at (f .watches ((k - 166) / 7) (omega arith)))
-                (λ j. let s : 169 + 7 * ((k - 166) / 7) ≡ k - 2 = omega arith in let t : 170 + 7 * ((k - 166) / 7) ≡ k - 1 = omega arith in let u : 171 + 7 * ((k - 166) / 7) ≡ k = omega arith in
-                  simp (s, t, u) at (f .puts ((k - 166) / 7) (omega arith)))))
-              (λ d. rw (le-ltb k 278 d) refl) (cases-lt k 278))) (cases-lt k 166))) (cases-lt k 70)))
-        (cases-eq k 69))
+    (⊎-elim (λ e. rw e (le-ltb 32 (getD ws 69 0) (f .few)))
+    (λ ne. rw (ne-eqb k 69 ne) (⊎-elim (λ a. rw (lt-ltb k 70 a) refl)
+    (λ a. rw (le-ltb k 70 a) (⊎-elim
+    (λ b. rw (lt-ltb k 166 b) (activity-none ((k - 70) / 3) (getD ws 69 0) ((k - 70) % 3) (getD ws k 0) (getD ws 0 0) (may-put (getD ws k 0))
+    (λ i j. let s : 70 + 3 * ((k - 70) / 3) ≡ k = omega arith in rw s at (f .later ((k - 70) / 3) i))
+    (λ i j. let s : 71 + 3 * ((k - 70) / 3) ≡ k = omega arith in rw s at (f .placed ((k - 70) / 3) i))))
+    (λ b. rw (le-ltb k 166 b) (⊎-elim
+    (λ d. rw (lt-ltb k 278 d) (rule-none ((k - 166) % 7) (getD ws k 0) (getD ws (k - 2) 0) (eqb (getD ws (k - 1) 0) 1) (may-put (getD ws k 0))
+    (λ j. let s : 166 + 7 * ((k - 166) / 7) ≡ k = omega arith in rw s at (f .watches ((k - 166) / 7) (omega arith)))
+    (λ j. let s : 169 + 7 * ((k - 166) / 7) ≡ k - 2 = omega arith in let t : 170 + 7 * ((k - 166) / 7) ≡ k - 1 = omega arith in let u : 171 + 7 * ((k - 166) / 7) ≡ k = omega arith in
+    simp (s, t, u) at (f .puts ((k - 166) / 7) (omega arith)))))
+    (λ d. rw (le-ltb k 278 d) refl) (cases-lt k 278))) (cases-lt k 166))) (cases-lt k 70)))
+    (cases-eq k 69))
 
 pub faults-right : Faults-right
 faults-right = record { sound = sane-of; complete = faultless-of }

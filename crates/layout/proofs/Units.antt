@@ -36,7 +36,7 @@ laid-next from n m words before part now next e l was is =
     let split : now ≡ front ++ drop (from + n) words = was ∙ sym (append-assoc (take from words) before (drop (from + n) words)) in
     let a : take (from + n) now ≡ front = ap (take (from + n)) split ∙ take-at front (drop (from + n) words) (from + n) len in
     let b : drop (from + n + m) now ≡ drop (from + (n + m)) words =
-        sym (drop-drop m (from + n) now) ∙ ap (drop m) (ap (drop (from + n)) split ∙ drop-at front (drop (from + n) words) (from + n) len) ∙ drop-drop m (from + n) words ∙ ap (λ k. drop k words) (omega arith) in
+    sym (drop-drop m (from + n) now) ∙ ap (drop m) (ap (drop (from + n)) split ∙ drop-at front (drop (from + n) words) (from + n) len) ∙ drop-drop m (from + n) words ∙ ap (λ k. drop k words) (omega arith) in
     is ∙ (λ i. a i ++ (part ++ b i)) ∙ append-assoc (take from words) before (part ++ drop (from + (n + m)) words)
     ∙ ap (λ (x : List ℕ). take from words ++ x) (sym (append-assoc before part (drop (from + (n + m)) words)))
 

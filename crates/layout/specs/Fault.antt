@@ -21,16 +21,16 @@ activity-fault ws k =
 abbrev pub rule-fault : List ℕ → ℕ → Bool
 rule-fault ws k =
     cond (eqb ((k - 166) % 7) 0) (leb 64 (getD ws k 0))
-      (eqb ((k - 166) % 7) 5 && (leb 1 (getD ws (k - 2) 0) && (not (eqb (getD ws (k - 1) 0) 1) && not (may-put (getD ws k 0)))))
+    (eqb ((k - 166) % 7) 5 && (leb 1 (getD ws (k - 2) 0) && (not (eqb (getD ws (k - 1) 0) 1) && not (may-put (getD ws k 0)))))
 
 -- word k is at fault
 abbrev pub at-fault : List ℕ → ℕ → Bool
 at-fault ws k =
     cond (ltb most (getD ws k 0)) true
-      (cond (eqb k 69) (ltb 32 (getD ws 69 0))
-        (cond (ltb k 70) false
-          (cond (ltb k 166) (activity-fault ws k)
-            (cond (ltb k 278) (rule-fault ws k) false))))
+    (cond (eqb k 69) (ltb 32 (getD ws 69 0))
+    (cond (ltb k 70) false
+    (cond (ltb k 166) (activity-fault ws k)
+    (cond (ltb k 278) (rule-fault ws k) false))))
 
 abbrev pub Faultless : List ℕ → Type 0
 Faultless ws = (k : ℕ) → k < word-count → at-fault ws k ≡ false

@@ -51,8 +51,14 @@ activity-at ws k = record { release = getD ws (70 + 3 * k) 0; place = getD ws (7
 
 abbrev pub rule-at : List ℕ → ℕ → Rule
 rule-at ws k = record {
-    watches = getD ws (166 + 7 * k) 0; limit = getD ws (167 + 7 * k) 0; upward = eqb (getD ws (168 + 7 * k) 0) 1; needs = getD ws (169 + 7 * k) 0;
-    safes = eqb (getD ws (170 + 7 * k) 0) 1; place = getD ws (171 + 7 * k) 0; number = getD ws (172 + 7 * k) 0 }
+  watches = getD ws (166 + 7 * k) 0;
+  limit = getD ws (167 + 7 * k) 0;
+  upward = eqb (getD ws (168 + 7 * k) 0) 1;
+  needs = getD ws (169 + 7 * k) 0;
+  safes = eqb (getD ws (170 + 7 * k) 0) 1;
+  place = getD ws (171 + 7 * k) 0;
+  number = getD ws (172 + 7 * k) 0;
+}
 
 unfoldable pub schedule-in : List ℕ → List Activity
 schedule-in ws = map (activity-at ws) (counting 0 (getD ws 69 0))
@@ -62,8 +68,16 @@ rules-in ws = map (rule-at ws) (counting 0 16)
 
 unfoldable pub state-of : List ℕ → State
 state-of ws = record {
-    time = getD ws 0 0; expected = getD ws 1 0; safe-mode = eqb (getD ws 2 0) 1; rejected = getD ws 3 0; missed = getD ws 4 0;
-    parameters = take 64 (drop 5 ws); schedule = schedule-in ws; rules = rules-in ws; counts = take 16 (drop 278 ws) }
+  time = getD ws 0 0;
+  expected = getD ws 1 0;
+  safe-mode = eqb (getD ws 2 0) 1;
+  rejected = getD ws 3 0;
+  missed = getD ws 4 0;
+  parameters = take 64 (drop 5 ws);
+  schedule = schedule-in ws;
+  rules = rules-in ws;
+  counts = take 16 (drop 278 ws);
+}
 
 -- the lists of a state have their room in memory
 pub record Sized (s : State) : Type 0 where

@@ -34,8 +34,13 @@ pub fn satellite(words: &[u64]) -> Satellite
     requires { ⌜ getD (now words) 69 0 ≤ 32 ⌝ }
     ensures { λ r. ⌜ model r ≡ state-of (now (words .entry)) ⌝ }
 {
-    let parameters = Parameters { values: part::<PLACES>(words, PARAMETERS) };
-    let rules = Rules { list: rules(words), counts: part::<COUNT>(words, COUNTS) };
+    let parameters = Parameters {
+        values: part::<PLACES>(words, PARAMETERS),
+    };
+    let rules = Rules {
+        list: rules(words),
+        counts: part::<COUNT>(words, COUNTS),
+    };
     Satellite {
         time: words[TIME],
         expected: words[EXPECTED],

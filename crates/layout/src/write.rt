@@ -47,7 +47,11 @@ fn lay_activities(words: &mut [u64], schedule: Schedule)
     ensures { λ _. ⌜ now (words .exit) ≡ take 70 (now (words .entry)) ++ (joined activity-words (waiting schedule) ++ drop (70 + 3 * length (waiting schedule)) (now (words .entry))) ⌝ }
 {
     for k in 0..schedule.count {
-        lay(words, ACTIVITIES + ACTIVITY * k, activity_words(schedule.activities[k]));
+        lay(
+            words,
+            ACTIVITIES + ACTIVITY * k,
+            activity_words(schedule.activities[k]),
+        );
     }
 }
 
@@ -69,7 +73,15 @@ fn lay_rules(words: &mut [u64], rules: [Rule; 16])
 fn rule_words(rule: Rule) -> [u64; 7]
     ensures { λ r. ⌜ r ≡ rule-words rule ⌝ }
 {
-    [rule.watches, rule.limit, mark(rule.upward), rule.needs, mark(rule.safes), rule.place, rule.number]
+    [
+        rule.watches,
+        rule.limit,
+        mark(rule.upward),
+        rule.needs,
+        mark(rule.safes),
+        rule.place,
+        rule.number,
+    ]
 }
 
 fn mark(b: bool) -> u64

@@ -21,9 +21,10 @@ heeding i s u o e d = λ j. heeded (sym d j) (e j)
 -- what the later steps need of the state is as it was before the rules
 pub release-fit : (i : Inputs) (s b w : State) → b ≡ begun (i .readings) s → w ≡ watched 16 b → Fit s → Placed (w .schedule) × (w .missed ≤ most)
 release-fit i s b w e d f =
-    let k : w ≡ with-safe-mode (watched 16 b .safe-mode) (with-parameters (watched 16 b .parameters) (with-counts (watched 16 b .counts) b)) = d ∙ watched-kept 16 b in
-    (subst Placed (sym (ap (λ (u : State). u .schedule) (k ∙ ap (λ (v : State). with-safe-mode (watched 16 b .safe-mode) (with-parameters (watched 16 b .parameters) (with-counts (watched 16 b .counts) v))) e))) (f .placed),
-     subst (λ n. n ≤ most) (sym (ap (λ (u : State). u .missed) (k ∙ ap (λ (v : State). with-safe-mode (watched 16 b .safe-mode) (with-parameters (watched 16 b .parameters) (with-counts (watched 16 b .counts) v))) e))) (f .missed))
+    let k : w ≡ with-safe-mode (watched 16 b .safe-mode) (with-parameters (watched 16 b .parameters) (with-counts (watched 16 b .counts) b)) = d ∙ watched-kept 16 b in (
+      subst Placed (sym (ap (λ (u : State). u .schedule) (k ∙ ap (λ (v : State). with-safe-mode (watched 16 b .safe-mode) (with-parameters (watched 16 b .parameters) (with-counts (watched 16 b .counts) v))) e))) (f .placed),
+      subst (λ n. n ≤ most) (sym (ap (λ (u : State). u .missed) (k ∙ ap (λ (v : State). with-safe-mode (watched 16 b .safe-mode) (with-parameters (watched 16 b .parameters) (with-counts (watched 16 b .counts) v))) e))) (f .missed),
+    )
 
 pub watch-fit : (i : Inputs) (s b : State) → b ≡ begun (i .readings) s → Fit s → Rules-fit b
 watch-fit i s b e f = subst Rules-fit (sym e) (record { each = f .rules .each; counts = f .rules .counts })

@@ -21,7 +21,7 @@ acted-rules r s = cond-both (r .safes) _ _ (λ (u : State). (u .rules ≡ s .rul
 pub one-rules : (k : ℕ) (s : State) → (watched-one k s .rules ≡ s .rules) × (watched-one k s .counts ≡ set (s .counts) k (looked k s))
 one-rules k s =
     cond-both (acts (rule s k) (looked k s)) (acted (rule s k) (counted k s)) (counted k s) (λ (u : State). (u .rules ≡ s .rules) × (u .counts ≡ set (s .counts) k (looked k s)))
-      (λ _. acted-rules (rule s k) (counted k s)) (λ _. (refl, refl))
+    (λ _. acted-rules (rule s k) (counted k s)) (λ _. (refl, refl))
 
 pub watched-none : (s : State) → s ≡ watched 0 s
 unfolding watched
@@ -64,8 +64,8 @@ acted-kept r s = cond-both (r .safes) (with-safe-mode true s) (with-parameters (
 pub one-kept : (k : ℕ) (s : State) → watched-one k s ≡ with-safe-mode (watched-one k s .safe-mode) (with-parameters (watched-one k s .parameters) (with-counts (watched-one k s .counts) s))
 one-kept k s =
     cond-both (acts (rule s k) (looked k s)) (acted (rule s k) (counted k s)) (counted k s) (λ (u : State). u ≡ with-safe-mode (u .safe-mode) (with-parameters (u .parameters) (with-counts (u .counts) s)))
-      (λ _. acted-kept (rule s k) (counted k s) ∙ ap (λ (c : List ℕ). with-safe-mode (acted (rule s k) (counted k s) .safe-mode) (with-parameters (acted (rule s k) (counted k s) .parameters) (with-counts c s))) (sym (acted-rules (rule s k) (counted k s) .1)))
-      (λ _. refl)
+    (λ _. acted-kept (rule s k) (counted k s) ∙ ap (λ (c : List ℕ). with-safe-mode (acted (rule s k) (counted k s) .safe-mode) (with-parameters (acted (rule s k) (counted k s) .parameters) (with-counts c s))) (sym (acted-rules (rule s k) (counted k s) .1)))
+    (λ _. refl)
 
 pub watched-kept : (k : ℕ) (s : State) → watched k s ≡ with-safe-mode (watched k s .safe-mode) (with-parameters (watched k s .parameters) (with-counts (watched k s .counts) s))
 unfolding watched

@@ -68,4 +68,13 @@ count s k = getD (s .counts) k 0
 -- at launch everything is 0, it is in safe mode, nothing waits, and all rules are off
 abbrev pub at-launch : State
 at-launch = record {
-    time = 0; expected = 0; safe-mode = true; rejected = 0; missed = 0; parameters = replicate 64 0; schedule = []; rules = replicate 16 off; counts = replicate 16 0 }
+  time = 0;
+  expected = 0;
+  safe-mode = true;
+  rejected = 0;
+  missed = 0;
+  parameters = replicate 64 0;
+  schedule = [];
+  rules = replicate 16 off;
+  counts = replicate 16 0;
+}

@@ -25,7 +25,10 @@ impl Satellite {
         let mut satellite = if self.can(telecommand.command) {
             self.done(telecommand.command)
         } else {
-            Satellite { rejected: self.rejected + 1, ..self }
+            Satellite {
+                rejected: self.rejected + 1,
+                ..self
+            }
         };
         satellite.expected += 1;
         satellite
@@ -52,12 +55,30 @@ impl Satellite {
         ensures { λ r. ⌜ model r ≡ done (model self) command ⌝ }
     {
         match command {
-            Command::Put { place, number } => Satellite { parameters: self.parameters.put(place, number), ..self },
-            Command::Later { activity } => Satellite { schedule: self.schedule.add(activity), ..self },
-            Command::Forget => Satellite { schedule: Schedule::empty(), ..self },
-            Command::Sleep => Satellite { safe_mode: true, ..self },
-            Command::Wake => Satellite { safe_mode: false, ..self },
-            Command::SetRule { index, rule } => Satellite { rules: self.rules.set(index, rule), ..self },
+            Command::Put { place, number } => Satellite {
+                parameters: self.parameters.put(place, number),
+                ..self
+            },
+            Command::Later { activity } => Satellite {
+                schedule: self.schedule.add(activity),
+                ..self
+            },
+            Command::Forget => Satellite {
+                schedule: Schedule::empty(),
+                ..self
+            },
+            Command::Sleep => Satellite {
+                safe_mode: true,
+                ..self
+            },
+            Command::Wake => Satellite {
+                safe_mode: false,
+                ..self
+            },
+            Command::SetRule { index, rule } => Satellite {
+                rules: self.rules.set(index, rule),
+                ..self
+            },
             Command::Unknown { .. } => self,
         }
     }

@@ -53,7 +53,11 @@ impl Satellite {
         requires { ⌜ self .time ≤ most ⌝ }
         ensures { λ r. ⌜ model r ≡ begun (now (readings .entry)) (model self) ⌝ }
     {
-        Satellite { time: self.time + 1, parameters: self.parameters.read(readings), ..self }
+        Satellite {
+            time: self.time + 1,
+            parameters: self.parameters.read(readings),
+            ..self
+        }
     }
 
     /// The rules are looked at from 0 to 15, each after what the ones before it did.
@@ -90,9 +94,15 @@ impl Satellite {
         ensures { λ r. ⌜ model r ≡ acted rule (model self) ⌝ }
     {
         if rule.safes {
-            Satellite { safe_mode: true, ..self }
+            Satellite {
+                safe_mode: true,
+                ..self
+            }
         } else {
-            Satellite { parameters: self.parameters.put(rule.place, rule.number), ..self }
+            Satellite {
+                parameters: self.parameters.put(rule.place, rule.number),
+                ..self
+            }
         }
     }
 
@@ -102,7 +112,8 @@ impl Satellite {
         requires { ⌜ self .missed ≤ most ⌝ }
         ensures { λ r. ⌜ model r ≡ released (model self) ⌝ }
     {
-        let released = self.schedule.release(self.time, self.safe_mode, self.parameters);
+        let released = self.schedule
+            .release(self.time, self.safe_mode, self.parameters);
         Satellite {
             missed: self.missed + released.missed,
             parameters: released.parameters,

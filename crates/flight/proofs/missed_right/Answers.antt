@@ -1,4 +1,4 @@
-use Rattle.flight.proofs.Effected.{missed-right}
+use Rattle.flight.proofs.Scheduled.{missed-right}
 use Rattle.flight.proofs.missed_right.Needs as need
 
 pub returns : need.returns

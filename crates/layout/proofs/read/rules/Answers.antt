@@ -8,9 +8,10 @@ use Rattle.layout.proofs.Parts.{filled-more}
 use Rattle.layout.proofs.read.rules.Needs as need
 
 pub loop-k-again : need.loop-k-again
-loop-k-again c =
-    (length-set (c .loop-k .rules) (c .loop-k .k) (c .rule .result) ∙ c .loop-k .inv .0,
-     filled-more (rule-at (c .args .words .now)) (c .loop-k .rules) (c .loop-k .k) (c .rule .result) off (omega arith) (c .rule .ensures) (c .loop-k .inv .1))
+loop-k-again c = (
+  length-set (c .loop-k .rules) (c .loop-k .k) (c .rule .result) ∙ c .loop-k .inv .0,
+  filled-more (rule-at (c .args .words .now)) (c .loop-k .rules) (c .loop-k .k) (c .rule .result) off (omega arith) (c .rule .ensures) (c .loop-k .inv .1),
+)
 
 pub returns : need.returns
 unfolding rules-in

@@ -10,5 +10,13 @@ unfolding state-of
 returns c =
     let w = c .args .words .now in
     λ i. record {
-      time = getD w 0 0; expected = getD w 1 0; safe-mode = eqb (getD w 2 0) 1; rejected = getD w 3 0; missed = getD w 4 0;
-      parameters = c .part .ensures i; schedule = c .schedule .ensures i; rules = c .rules .ensures i; counts = c .part-2 .ensures i }
+      time = getD w 0 0;
+      expected = getD w 1 0;
+      safe-mode = eqb (getD w 2 0) 1;
+      rejected = getD w 3 0;
+      missed = getD w 4 0;
+      parameters = c .part .ensures i;
+      schedule = c .schedule .ensures i;
+      rules = c .rules .ensures i;
+      counts = c .part-2 .ensures i;
+    }

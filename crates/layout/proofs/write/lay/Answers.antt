@@ -13,4 +13,4 @@ pub returns : need.returns
 returns g c =
     let e : c .loop-i .i ≡ g .M = omega arith in
     laid-all (c .args .from) (g .M) (c .loop-i .words) (c .args .part) (c .args .words .now) (omega arith)
-      (subst (λ i. Laid (c .args .from) i (c .loop-i .words) (c .args .part) (c .args .words .now)) e (c .loop-i .inv))
+    (subst (λ i. Laid (c .args .from) i (c .loop-i .words) (c .args .part) (c .args .words .now)) e (c .loop-i .inv))

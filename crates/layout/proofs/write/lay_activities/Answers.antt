@@ -17,8 +17,8 @@ pub loop-k-again : need.loop-k-again
 loop-k-again c =
     let a = c .args .schedule .activities in
     laid-one 3 activity-words (λ x. refl) 70 (c .loop-k .k) (c .args .words .now) (c .activity-words .result) (c .loop-k .words) (c .lay .last .words)
-      (first (c .loop-k .k) a) (first (c .loop-k .k + 1) a) (getD a (c .loop-k .k) no-activity) (length-first (c .loop-k .k) a) (first-more (c .loop-k .k) a)
-      (c .activity-words .ensures) (let h = c .args .schedule .few in omega arith) (c .loop-k .inv) (c .lay .ensures)
+    (first (c .loop-k .k) a) (first (c .loop-k .k + 1) a) (getD a (c .loop-k .k) no-activity) (length-first (c .loop-k .k) a) (first-more (c .loop-k .k) a)
+    (c .activity-words .ensures) (let h = c .args .schedule .few in omega arith) (c .loop-k .inv) (c .lay .ensures)
 
 pub returns : need.returns
 returns c =

@@ -17,8 +17,8 @@ pub loop-k-again : need.loop-k-again
 loop-k-again c =
     let r = c .args .rules in
     laid-one 7 rule-words (λ x. refl) 166 (c .loop-k .k) (c .args .words .now) (c .rule-words .result) (c .loop-k .words) (c .lay .last .words)
-      (take (c .loop-k .k) r) (take (c .loop-k .k + 1) r) (getD r (c .loop-k .k) off) (length-take-le (c .loop-k .k) r (omega arith)) (take-more r (c .loop-k .k) off (omega arith))
-      (c .rule-words .ensures) (omega arith) (c .loop-k .inv) (c .lay .ensures)
+    (take (c .loop-k .k) r) (take (c .loop-k .k + 1) r) (getD r (c .loop-k .k) off) (length-take-le (c .loop-k .k) r (omega arith)) (take-more r (c .loop-k .k) off (omega arith))
+    (c .rule-words .ensures) (omega arith) (c .loop-k .inv) (c .lay .ensures)
 
 pub returns : need.returns
 returns c =

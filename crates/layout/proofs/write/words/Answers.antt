@@ -15,8 +15,8 @@ returns c =
     let n : length (waiting (s .schedule)) ≡ s .schedule .count = length-first (s .schedule .count) (s .schedule .activities) in
     let few : length (waiting (s .schedule)) ≤ 32 = (let h = s .schedule .few in omega arith) in
     assembled (model s) (c .lay .last .words) (c .lay-2 .last .words) (c .lay-3 .last .words) (c .lay-activities .last .words) (c .lay-rules .last .words) (c .lay-4 .last .words)
-      (omega arith) few (omega arith) (omega arith)
-      (c .lay .ensures ∙ ap (λ m. (s .time ∷ (s .expected ∷ (m ∷ (s .rejected ∷ (s .missed ∷ []))))) ++ drop 5 (replicate 294 0)) (c .mark .ensures))
-      (c .lay-2 .ensures)
-      (c .lay-3 .ensures ∙ ap (λ k. take 69 (c .lay-2 .last .words) ++ ((k ∷ []) ++ drop 70 (c .lay-2 .last .words))) (sym n))
-      (c .lay-activities .ensures) (c .lay-rules .ensures) (c .lay-4 .ensures)
+    (omega arith) few (omega arith) (omega arith)
+    (c .lay .ensures ∙ ap (λ m. (s .time ∷ (s .expected ∷ (m ∷ (s .rejected ∷ (s .missed ∷ []))))) ++ drop 5 (replicate 294 0)) (c .mark .ensures))
+    (c .lay-2 .ensures)
+    (c .lay-3 .ensures ∙ ap (λ k. take 69 (c .lay-2 .last .words) ++ ((k ∷ []) ++ drop 70 (c .lay-2 .last .words))) (sym n))
+    (c .lay-activities .ensures) (c .lay-rules .ensures) (c .lay-4 .ensures)

@@ -16,19 +16,19 @@ release-satellite-requires c κs =
 pub obey-requires : need.obey-requires
 obey-requires c κs =
     obey-fit (record { readings = c .args .readings .now; frame = c .args .frame .now }) (model (c .args .self)) (model (c .begin .result)) (model (c .watch .result)) (model (c .release-satellite .result))
-      (c .begin .ensures) (c .watch .ensures) (c .release-satellite .ensures) (c .pre .1)
+    (c .begin .ensures) (c .watch .ensures) (c .release-satellite .ensures) (c .pre .1)
 
 pub returns-in-rest : need.returns-in-rest
 returns-in-rest c =
     let i : Inputs = record { readings = c .args .readings .now; frame = c .args .frame .now } in
     heeding i (model (c .args .self)) (model (c .release-satellite .result)) None
-      (receiving i (model (c .args .self)) (model (c .begin .result)) (model (c .watch .result)) (model (c .release-satellite .result)) (c .begin .ensures) (c .watch .ensures) (c .release-satellite .ensures))
-      (sym (c .decode .ensures) ∙ c .in-rest .is)
+    (receiving i (model (c .args .self)) (model (c .begin .result)) (model (c .watch .result)) (model (c .release-satellite .result)) (c .begin .ensures) (c .watch .ensures) (c .release-satellite .ensures))
+    (sym (c .decode .ensures) ∙ c .in-rest .is)
 
 pub returns : need.returns
 returns c =
     let i : Inputs = record { readings = c .args .readings .now; frame = c .args .frame .now } in
     c .obey .ensures
     ∙ heeding i (model (c .args .self)) (model (c .release-satellite .result)) (Some (c .in-Some .telecommand))
-      (receiving i (model (c .args .self)) (model (c .begin .result)) (model (c .watch .result)) (model (c .release-satellite .result)) (c .begin .ensures) (c .watch .ensures) (c .release-satellite .ensures))
-      (sym (c .decode .ensures) ∙ c .in-Some .is)
+    (receiving i (model (c .args .self)) (model (c .begin .result)) (model (c .watch .result)) (model (c .release-satellite .result)) (c .begin .ensures) (c .watch .ensures) (c .release-satellite .ensures))
+    (sym (c .decode .ensures) ∙ c .in-Some .is)
