@@ -1,21 +1,30 @@
 -- A call that does what the entry says goes on with the flight.
 use mathlib.Core.Path.{_≡_, refl, sym, ap, subst, _∙_}
 use mathlib.Core.Bool.{Bool, true, false, cond, _||_}
-use mathlib.Core.List.{List, [], _∷_, _++_}
+use mathlib.Core.List.{List, [], _∷_, _++_, map}
 use mathlib.Core.Logic.{_⊎_, ⊎-elim}
 use Prim.Native.Nat.{ℕ, _+_, _*_, _≤_, _<_}
 use native.Mathlib.Omega.{arith}
-use lib.Dec.{eqb}
-use lib.ListN.{length, getD, length-append}
+use lib.Dec.{eqb, leb}
+use lib.ListN.{length, getD, drop, length-append}
 use Rattle.std.specs.declared.option.Option.{Option}
 use Rattle.std.specs.declared.option.Option.the-variants.{Some, None}
-use Rattle.std.proofs.shelf.Tests.{eq-eqb, ltb-false, or-left, or-right, true≢false, cond-true}
+use Rattle.std.proofs.shelf.Tests.{eq-eqb, leb-true, and-parts, or-left, or-right, true≢false, cond-true}
+use Rattle.std.specs.Iters.{counting}
+use Rattle.std.proofs.shelf.Counted.{length-map-counting, getD-map-counting}
+use Rattle.std.proofs.shelf.Lists.{getD-take, getD-drop}
+use Rattle.schedule.specs.declared.activity.Activity.{Activity}
+use Rattle.schedule.specs.Waiting.{no-activity, Placed}
+use Rattle.rules.specs.Watching.{off}
+use Rattle.parameters.specs.Places.{may-put}
 use Rattle.memory.specs.Threefold.{voted-words, thrice, threefold}
-use Rattle.satellite.specs.State.{State, at-launch}
+use Rattle.satellite.specs.State.{State, rule, count, at-launch}
 use Rattle.satellite.specs.Story.{Inputs, ticked}
-use Rattle.satellite.specs.Fit.{Fit, most}
-use Rattle.layout.specs.Map.{word-count, words-of, state-of}
-use Rattle.layout.specs.Fault.{at-fault, Faultless}
+use Rattle.satellite.specs.Fit.{Fit, Rule-fit, Rules-fit, most}
+use Rattle.layout.specs.Map.{word-count, words-of, activity-at, rule-at, schedule-in, rules-in, state-of}
+use Rattle.layout.specs.Fault.{at-fault, Faultless, Sane}
+use Rattle.layout.proofs.Sanity.{sane-of}
+use Rattle.layout.proofs.Places.{length-words}
 use Rattle.telemetry.specs.Reports.{report-of, numbers-of}
 use Rattle.flight.specs.Machine.{launched}
 use Rattle.flight.specs.Flight.{Lawful, machine, after, Flew}
@@ -30,8 +39,42 @@ use Rattle.onboard.specs.declared.Done.the-variants.{Ticked, Refused}
 use Rattle.onboard.specs.Entry.{wrong-length, tick-of, Says, Goes-on}
 
 -- memory without fault says a state that can tick
+rule-fit : (ws : List ℕ) (k : ℕ) → Sane ws → k < 16 → Rule-fit (rule-at ws k)
+rule-fit ws k s l = record {
+  watches = s .watches k l;
+  puts = λ n e. ⊎-elim {C = getD ws (171 + 7 * k) 0 < 64} (λ z. absurd (omega arith)) (⊎-elim {C = getD ws (171 + 7 * k) 0 < 64} (λ t. absurd (true≢false (sym t ∙ e))) (λ p. below (getD ws (171 + 7 * k) 0) p)) (s .puts k l);
+}
+  where
+    below : (a : ℕ) → may-put a ≡ true → a < 64
+    below a e = let p = leb-true a 63 (and-parts (leb 16 a) (leb a 63) e .1) in omega arith
+
+rules-fit : (ws : List ℕ) (k : ℕ) → Sane ws → k < 16 → Rule-fit (rule (state-of ws) k)
+unfolding state-of rules-in
+rules-fit ws k s l = subst Rule-fit (sym (getD-map-counting (rule-at ws) 0 16 k k off l (omega arith))) (rule-fit ws k s l)
+
+counts-fit : (ws : List ℕ) (k : ℕ) → Sane ws → k < 16 → count (state-of ws) k ≤ most
+unfolding state-of
+counts-fit ws k s l = subst (λ n. n ≤ most) (sym (getD-take 16 (drop 278 ws) k 0 l ∙ getD-drop 278 ws k 0)) (s .small (278 + k) (omega arith))
+
+placed-fit : (ws : List ℕ) → Sane ws → Placed (state-of ws .schedule)
+unfolding state-of schedule-in
+placed-fit ws s k l =
+    let n : length (map (activity-at ws) (counting 0 (getD ws 69 0))) ≡ getD ws 69 0 = length-map-counting (activity-at ws) 0 (getD ws 69 0) in
+    let e : getD (map (activity-at ws) (counting 0 (getD ws 69 0))) k no-activity ≡ activity-at ws k = getD-map-counting (activity-at ws) 0 (getD ws 69 0) k k no-activity (omega arith) (omega arith) in
+    subst (λ (a : Activity). a .place < 64) (sym e) (let p = leb-true (getD ws (71 + 3 * k) 0) 63 (and-parts (leb 16 (getD ws (71 + 3 * k) 0)) (leb (getD ws (71 + 3 * k) 0) 63) (s .placed k (omega arith)) .1) in omega arith)
+
+heads-fit : (ws : List ℕ) → Sane ws → (state-of ws .time ≤ most) × (state-of ws .expected ≤ most) × (state-of ws .rejected ≤ most) × (state-of ws .missed ≤ most)
+unfolding state-of
+heads-fit ws s = (s .small 0 (omega arith), s .small 1 (omega arith), s .small 3 (omega arith), s .small 4 (omega arith))
+
 pub fit-of : (ws : List ℕ) → Faultless ws → Fit (state-of ws)
-fit-of ws f = record { time = ltb-false most (getD ws 0 0) (f 0 (omega arith)); expected = ltb-false most (getD ws 1 0) (f 1 (omega arith)); rejected = ltb-false most (getD ws 3 0) (f 3 (omega arith)) }
+fit-of ws f =
+    let s = sane-of ws f in
+    let h = heads-fit ws s in
+    record { time = h .0; expected = h .1; rejected = h .2; missed = h .3; placed = placed-fit ws s; rules = record { each = λ k l. rules-fit ws k s l; counts = λ k l. counts-fit ws k s l } }
+
+pub few-of : (ws : List ℕ) → Faultless ws → getD ws 69 0 ≤ 32
+few-of ws f = sane-of ws f .few
 
 thrice-length : (ws : List ℕ) → length (thrice ws) ≡ 3 * length ws
 thrice-length ws = omega (arith, length-append ws (ws ++ ws), length-append ws ws)
@@ -64,7 +107,7 @@ goes-on (Refused (Unfit word)) m r f t m₁ t₁ small says is kept flown upset 
     absurd (true≢false (sym (says .1 .1) ∙ never-refused is kept m flown upset short word (says .1 .0)))
 
 pub launch-flies : (m₁ : List ℕ) → m₁ ≡ thrice (words-of at-launch) → Flew [] m₁
-launch-flies m₁ e = launched m₁ (refl, e)
+launch-flies m₁ e = launched m₁ (length-words at-launch (record { parameters = refl; schedule = omega arith; rules = refl; counts = refl }), e)
 
 -- the steps of the entry, one after the other
 pub ticked-says : (m r f t m₁ t₁ ws : List ℕ) (s : State) → wrong-length (length m) (length r) (length f) (length t) ≡ None → ws ≡ voted-words word-count m → Faultless ws

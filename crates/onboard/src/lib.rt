@@ -66,7 +66,7 @@ pub fn launch(memory: &mut [u64]) -> Result<(), Refusal>
     if memory.len() != 3 * WORDS {
         return Err(Refusal::Length(Lent::Memory));
     }
-    store(memory, layout::words(&Satellite::at_launch()));
+    store(memory, layout::words(Satellite::at_launch()));
     Ok(())
 }
 
@@ -83,7 +83,7 @@ pub fn tick(memory: &mut [u64], readings: &[u16], frame: &[u64], report: &mut [u
         return Done::Refused(Refusal::Unfit { word });
     }
     let satellite = layout::satellite(&words).tick(readings, frame);
-    store(memory, layout::words(&satellite));
+    store(memory, layout::words(satellite));
     report.copy_from_slice(&Telemetry::of(&satellite).numbers());
     Done::Ticked
 }

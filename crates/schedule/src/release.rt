@@ -39,11 +39,18 @@ impl Schedule {
         }
     }
 
+    /// How many wait.
+    pub fn len(&self) -> usize
+        ensures { λ r. ⌜ r ≡ length (waiting (now (self .entry))) ⌝ }
+    {
+        self.count
+    }
+
     /// Whether no more activity can wait.
     pub fn is_full(&self) -> bool
         ensures { λ r. ⌜ r ≡ leb 32 (length (waiting (now (self .entry)))) ⌝ }
     {
-        self.count >= ROOM
+        self.len() >= ROOM
     }
 
     /// One more activity waits, behind the others.

@@ -2,6 +2,7 @@
 use mathlib.Core.Bool.{Bool, cond}
 use mathlib.Core.List.{List, [], _∷_}
 use Prim.Native.Nat.{ℕ}
+use lib.ListN.{length}
 use Rattle.satellite.specs.State.{State, parameter}
 use Rattle.telemetry.specs.declared.Report.{Report}
 
@@ -12,7 +13,7 @@ report-of s = record {
   «safe_mode» = s .safe-mode;
   rejected = s .rejected;
   missed = s .missed;
-  waiting = 0;
+  waiting = length (s .schedule);
   first = parameter s 0;
   second = parameter s 1;
 }

@@ -32,7 +32,7 @@ impl Report {
             safe_mode: satellite.safe_mode,
             rejected: satellite.rejected,
             missed: satellite.missed,
-            waiting: 0,
+            waiting: satellite.schedule.len() as u64,
             first: satellite.parameters.at(0),
             second: satellite.parameters.at(1),
         }

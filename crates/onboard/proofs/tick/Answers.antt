@@ -2,20 +2,25 @@ use mathlib.Core.Path.{_≡_, refl, sym, ap, subst, _∙_}
 use mathlib.Core.List.{List}
 use Prim.Native.Nat.{ℕ, _≤_}
 use native.Mathlib.Omega.{arith}
+use borrow.Author.Needs.{needs}
 use lib.ListN.{getD}
 use Rattle.std.specs.declared.option.Option.{Option}
 use Rattle.std.specs.declared.option.Option.the-variants.{Some, None}
 use Rattle.memory.specs.Threefold.{voted-words, thrice}
 use Rattle.satellite.specs.Model.{model}
 use Rattle.satellite.specs.Story.{ticked}
+use Rattle.satellite.specs.Fit.{Fit}
 use Rattle.layout.specs.Map.{word-count, words-of}
 use Rattle.layout.specs.Fault.{Lowest}
 use Rattle.telemetry.specs.Reports.{numbers-of, report-of}
 use Rattle.onboard.specs.declared.Refusal.the-variants.{Length, Unfit}
 use Rattle.onboard.specs.declared.Done.the-variants.{Ticked, Refused}
 use Rattle.onboard.specs.Entry.{Says}
-use Rattle.onboard.proofs.Entering.{goes-on, ticked-says}
+use Rattle.onboard.proofs.Entering.{fit-of, goes-on, ticked-says}
 use Rattle.onboard.proofs.tick.Needs as need
+
+pub tick-satellite-requires : need.tick-satellite-requires
+tick-satellite-requires c κs = (search needs, subst Fit (sym (c .satellite .ensures)) (fit-of (c .words-words .result) (c .in-rest-fault .ensures tt)))
 
 pub returns-in-Some : need.returns-in-Some
 returns-in-Some c =
