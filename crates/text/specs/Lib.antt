@@ -1,0 +1,5 @@
+pub mod Cut
+pub mod Number
+pub mod Words
+pub mod Law
+pub mod Table
