@@ -4,3 +4,6 @@ pub mod Splitting
 pub mod Shapes
 pub mod Many
 pub mod Forming
+pub mod Telling
+pub mod Lawfulness
+pub mod Undoing

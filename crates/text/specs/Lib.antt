@@ -3,3 +3,5 @@ pub mod Number
 pub mod Words
 pub mod Law
 pub mod Table
+pub mod Text
+pub mod Phrase
