@@ -7,3 +7,4 @@ pub mod Forming
 pub mod Telling
 pub mod Lawfulness
 pub mod Undoing
+pub mod Writing

@@ -5,3 +5,4 @@ pub mod Law
 pub mod Table
 pub mod Text
 pub mod Phrase
+pub mod Render
