@@ -8,3 +8,4 @@ pub mod Telling
 pub mod Lawfulness
 pub mod Undoing
 pub mod Writing
+pub mod Bounds

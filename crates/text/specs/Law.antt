@@ -17,11 +17,15 @@ command-bounded Command.Sleep = true
 command-bounded Command.Wake = true
 command-bounded (Command.Unknown k) = false
 
+abbrev pub all-below : ℕ → List ℕ → Bool
+all-below n [] = true
+all-below n (x ∷ xs) = ltb x n && all-below n xs
+
 abbrev pub bounded : Event → Bool
 bounded (Event.Read i v) = ltb i 16 && ltb v 65536
 bounded (Event.Up n c) = ltb n 4294967296 && command-bounded c
-bounded (Event.Frame xs) = eqb (length xs) 12
-bounded (Event.Hit c w v) = ltb c 3 && ltb w kept-words
+bounded (Event.Frame xs) = eqb (length xs) 12 && all-below (2 ^ 64) xs
+bounded (Event.Hit c w v) = ltb c 3 && (ltb w kept-words && ltb v (2 ^ 64))
 bounded Event.Tick = true
 
 -- whether a frame comes up

@@ -21,8 +21,9 @@ pub fn bounded(event: Event) -> bool
     match event {
         Event::Read { instrument, value } => instrument < INSTRUMENTS && value < READINGS,
         Event::Up { number, command } => number < CARRIED && commandable(command),
+        Event::Frame { .. } => true,
         Event::Hit { copy, word, .. } => copy < COPIES && word < WORDS,
-        Event::Frame { .. } | Event::Tick => true,
+        Event::Tick => true,
     }
 }
 
