@@ -9,3 +9,6 @@ pub mod Lawfulness
 pub mod Undoing
 pub mod Writing
 pub mod Bounds
+pub mod Back
+pub mod Rendering
+pub mod Once

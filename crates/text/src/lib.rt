@@ -4,13 +4,16 @@ mod event;
 mod fault;
 mod law;
 mod flight;
-mod render;
 mod words;
+mod write;
 
 pub use event::Event;
-pub use render::EventDisplay;
+pub use write::EventDisplay;
 pub use fault::Expected;
 pub use fault::ExpectedDisplay;
 pub use fault::Fault;
 pub use law::WORDS;
 pub use flight::parse;
+pub use write::Order;
+pub use write::OrderDisplay;
+pub use write::render;

@@ -1,7 +1,7 @@
 use mathlib.Core.Path.{ap}
 use Rattle.std.specs.Results.{isOk}
 use Rattle.text.proofs.Writing.{put-more, put-is, listed-more, listed-all}
-use Rattle.text.proofs.render.list.Needs as need
+use Rattle.text.proofs.write.list.Needs as need
 
 pub loop-n-again : need.loop-n-again
 loop-n-again g c = λ p.

@@ -5,7 +5,7 @@ use Rattle.text.specs.declared.words.Word.the-variants.{Frame}
 use Rattle.text.specs.Table.{event-words}
 use Rattle.text.specs.Words.{spelt}
 use Rattle.text.proofs.Writing.{put-more, put-is, spelt-listed}
-use Rattle.text.proofs.render.EventDisplay.fmt.Needs as need
+use Rattle.text.proofs.write.EventDisplay.fmt.Needs as need
 
 pub returns-in-Continue-write : need.returns-in-Continue-write
 returns-in-Continue-write g c = λ p k.

@@ -1,14 +1,33 @@
 //! Writes a flight text.
 ghost use mathlib.Core.Path.{_≡_};
 ghost use Rattle.std.specs.declared.option.Option.the-variants.{Some};
+ghost use mathlib.Core.Bool.{true};
+ghost use Rattle.std.specs.Of.String.{string-bytes};
+ghost use Rattle.std.specs.Vec.{made};
 ghost use Rattle.std.specs.Written.{Prints};
+ghost use Rattle.text.specs.Law.{lawful};
 ghost use Rattle.text.specs.Table.{command-words, event-words};
 ghost use Rattle.text.specs.Words.{spelt};
-ghost use Rattle.text.specs.Render.{listed};
+ghost use Rattle.text.specs.Render.{listed, rendered, Only};
 use crate::event::Event;
 use frame::Command;
 use frame::CommandDebug;
+use std::alloc::AllocError;
+use std::alloc::Global;
 use std::fmt;
+
+/// A text that says the events, one to a line. Where they are lawful, parsing it gives them back.
+pub fn render(heap: Global, events: &[Event]) -> Result<String, AllocError>
+    ensures text { λ r. ⌜ made r (λ s. string-bytes s ≡ rendered event-words (now (events .entry))) ⌝ }
+    ensures back { λ r. ⌜ made r (λ s. lawful (now (events .entry)) ≡ true → Only (string-bytes s) (now (events .entry))) ⌝ }
+{
+    let mut out = String::new(heap);
+    for event in events {
+        let line = format!(heap, "{event}\n")?;
+        out.push_str(line.as_str())?;
+    }
+    Ok(out)
+}
 
 pub impl fmt::Display for Event as EventDisplay {
     ghost shown = { λ e. Some (spelt (event-words e)) };
