@@ -15,14 +15,14 @@ use Rattle.text.specs.declared.words.Word.the-variants.{Number}
 use Rattle.text.specs.declared.event.Event.{Event}
 use Rattle.text.specs.declared.fault.Fault.{Fault}
 use Rattle.text.specs.declared.fault.Fault.the-variants.{Unreadable, Memory}
-use Rattle.text.specs.Law.{command-bounded, bounded, all-below, after, allowed, all-allowed, lawful, kept-words}
+use Rattle.text.specs.Law.{command-bounded, bounded, all-below, after, allowed, all-allowed, lawful, all-commandable, kept-words}
 use Rattle.text.specs.Render.{rendered, Only}
 use Rattle.text.specs.Table.{command-words, event-words}
-use Rattle.text.specs.Text.{spoken, Says, FirstFault, Told, Failed}
+use Rattle.text.specs.Text.{spoken, Says, FirstFault, Told, Failed, Ordered, Disordered}
 use Rattle.text.specs.Words.{lines}
 use Rattle.text.proofs.Back.{Writable, says-back}
 use Rattle.text.proofs.Telling.{spoken-append, once}
-use Rattle.text.proofs.Undoing.{event-back, event-undo, event-some}
+use Rattle.text.proofs.Undoing.{command-back, command-undo, command-some, event-back, event-undo, event-some}
 
 -- the first lines say the first things
 some-said : {E : Type 0} (table : E → List Word) (ls : List (List Word)) (k : ℕ) (es : List E) → Says table ls es → Says table (take k ls) (take (length (spoken (take k ls))) es)
@@ -72,8 +72,19 @@ events-writable h (e ∷ es) l =
     let t = and-parts (allowed h e) (all-allowed (after h e) es) l in
     (event-writable e (and-parts (bounded e) _ (t .0) .0), events-writable (after h e) es (t .1))
 
+commands-writable : (cs : List Command) → all-commandable cs ≡ true → All (λ (c : Command). All Writable (command-words c)) cs
+commands-writable [] l = tt
+commands-writable (c ∷ cs) l = let t = and-parts (command-bounded c) (all-commandable cs) l in (command-writable c (t .0), commands-writable cs (t .1))
+
+first-commandable : (n : ℕ) (cs : List Command) → all-commandable cs ≡ true → all-commandable (take n cs) ≡ true
+first-commandable zero cs l = refl
+first-commandable (suc n) [] l = refl
+first-commandable (suc n) (c ∷ cs) l =
+    let t = and-parts (command-bounded c) (all-commandable cs) l in
+    and-from (command-bounded c) (all-commandable (take n cs)) (t .0) (first-commandable n cs (t .1))
+
 -- the text of lawful events is read as them
-pub read-back : (es : List Event) → lawful es ≡ true → Only (rendered event-words es) es
+pub read-back : (es : List Event) → lawful es ≡ true → Only Event (Told (rendered event-words es)) (Failed (rendered event-words es)) es
 read-back es l =
     let s = says-back event-words event-some es (events-writable false es l) in
     record {
@@ -84,4 +95,18 @@ read-back es l =
   where
   no-fault : (f : Fault) → Failed (rendered event-words es) f → Says event-words (lines (rendered event-words es)) es → f ≡ Memory
   no-fault (Unreadable n x) q s = absurd (not-both event-words lawful (first-lawful false) _ n es s l (q .0))
+  no-fault Memory q s = refl
+
+-- and so is that of commands
+pub orders-back : (cs : List Command) → all-commandable cs ≡ true → Only Command (Ordered (rendered command-words cs)) (Disordered (rendered command-words cs)) cs
+orders-back cs l =
+    let s = says-back command-words command-some cs (commands-writable cs l) in
+    record {
+      told = (s, l);
+      once = λ fs q. once command-words command-back command-undo (lines (rendered command-words cs)) fs cs (q .0) s;
+      faultless = λ f q. no-fault f q s;
+    }
+  where
+  no-fault : (f : Fault) → Disordered (rendered command-words cs) f → Says command-words (lines (rendered command-words cs)) cs → f ≡ Memory
+  no-fault (Unreadable n x) q s = absurd (not-both command-words all-commandable first-commandable _ n cs s l (q .0))
   no-fault Memory q s = refl

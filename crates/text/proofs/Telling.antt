@@ -44,11 +44,18 @@ spoken-some (w ∷ ws) ls n = refl
 says-more : {E : Type 0} (table : E → List Word) (done : List (List Word)) (l : List Word) (es fs : List E) → Says table done es → Says table (l ∷ []) fs → Says table (done ++ l ∷ []) (es ++ fs)
 says-more table done l es fs p q = spoken-append done (l ∷ []) ∙ (λ i. p i ++ q i) ∙ sym (map-append table es fs)
 
-pub says-nothing : {E : Type 0} (table : E → List Word) (l : List Word) → l ≡ [] → Says table (l ∷ []) []
-says-nothing table l e = ap (λ (k : List Word). spoken (k ∷ [])) e
+-- what one line adds to what the lines before it say
+pub record Adds (E : Type 0) (table : E → List Word) (law : List E → Bool) (l : List Word) (es now : List E) : Type 0 where
+  pub more : List E
+  pub says : Says table (l ∷ []) more
+  pub is : now ≡ es ++ more
+  pub lawful : law now ≡ true
 
-pub says-one : {E : Type 0} (table : E → List Word) (l : List Word) (e : E) → (table e ≡ [] → ⊥) → l ≡ table e → Says table (l ∷ []) (e ∷ [])
-says-one table l e n h = ap (λ (k : List Word). spoken (k ∷ [])) h ∙ spoken-some (table e) [] n
+pub adds-nothing : {E : Type 0} (table : E → List Word) (law : List E → Bool) (l : List Word) (es now : List E) → l ≡ [] → law es ≡ true → now ≡ es → Adds E table law l es now
+adds-nothing table law l es now n k e = record { more = []; says = ap (λ (v : List Word). spoken (v ∷ [])) n; is = e ∙ sym (append-nil es); lawful = ap law e ∙ k }
+
+pub adds-one : {E : Type 0} (table : E → List Word) (law : List E → Bool) (l : List Word) (es now : List E) (e : E) → (table e ≡ [] → ⊥) → l ≡ table e → law (es ++ e ∷ []) ≡ true → now ≡ es ++ e ∷ [] → Adds E table law l es now
+adds-one table law l es now e n h k p = record { more = e ∷ []; says = ap (λ (v : List Word). spoken (v ∷ [])) h ∙ spoken-some (table e) [] n; is = p; lawful = ap law p ∙ k }
 
 -- a table that can be undone tells what it is a table of
 all-back : {E : Type 0} (table : E → List Word) (back : List Word → E) → ((e : E) → back (table e) ≡ e) → (es : List E) → map back (map table es) ≡ es
@@ -75,21 +82,23 @@ module _ {E : Type 0} (table : E → List Word) (law : List E → Bool) {text re
   shorter : length more ≤ length rest
   shorter = omega (arith, ap length (f .back), length-drop (f .n) rest)
 
-  pub next : (fs now : List E) → 0 < length more → Says table (line-words one ∷ []) fs → now ≡ es ++ fs → law now ≡ true → Sofar E table law text (take (length more - 1) (drop 1 more)) (line + 1) now
-  next fs now l q e k =
+  now-said : (now : List E) → Adds E table law (line-words one) es now → Says table (h .done ++ line-words one ∷ []) now
+  now-said now a = subst (Says table (h .done ++ line-words one ∷ [])) (sym (a .is)) (says-more table (h .done) (line-words one) es (a .more) (h .says) (a .says))
+
+  pub next : (now : List E) → Adds E table law (line-words one) es now → 0 < length more → Sofar E table law text (take (length more - 1) (drop 1 more)) (line + 1) now
+  next now a l =
       record {
         done = h .done ++ line-words one ∷ [];
         cutting = on ∙ ap (λ (ps : List (List ℕ)). (h .done ++ line-words one ∷ []) ++ map line-words ps) (further-some (stops Line) more l);
         long = length-push (h .done) (line-words one) ∙ ap (λ (k : ℕ). k + 1) (h .long);
-        says = subst (Says table (h .done ++ line-words one ∷ [])) (sym e) (says-more table (h .done) (line-words one) es fs (h .says) q);
-        lawful = k;
+        says = now-said now a;
+        lawful = a .lawful;
         room = omega (arith, h .room, shorter, length-take (length more - 1) (drop 1 more), length-drop 1 more);
       }
 
-  pub last : (fs now : List E) → length more ≡ 0 → Says table (line-words one ∷ []) fs → now ≡ es ++ fs → Says table (lines text) now
-  last fs now l q e =
-      ap spoken (on ∙ ap (λ (ps : List (List ℕ)). (h .done ++ line-words one ∷ []) ++ map line-words ps) (further-none (stops Line) more l) ∙ append-nil (h .done ++ line-words one ∷ []))
-      ∙ subst (Says table (h .done ++ line-words one ∷ [])) (sym e) (says-more table (h .done) (line-words one) es fs (h .says) q)
+  pub last : (now : List E) → Adds E table law (line-words one) es now → length more ≡ 0 → Says table (lines text) now × (law now ≡ true)
+  last now a l =
+      (ap spoken (on ∙ ap (λ (ps : List (List ℕ)). (h .done ++ line-words one ∷ []) ++ map line-words ps) (further-none (stops Line) more l) ∙ append-nil (h .done ++ line-words one ∷ [])) ∙ now-said now a, a .lawful)
 
   -- the line that comes next
   pub here : getD (lines text) line [] ≡ line-words one

@@ -79,6 +79,9 @@ event-undo Event.Tick = refl
 pub same-event : (ws : List Word) (d e : Event) → ws ≡ event-words d → ws ≡ event-words e → d ≡ e
 same-event ws d e p q = sym (event-undo d) ∙ ap event-back (sym p ∙ q) ∙ event-undo e
 
+pub same-command : (ws : List Word) (c d : Command) → ws ≡ command-words c → ws ≡ command-words d → c ≡ d
+same-command ws c d p q = sym (command-undo c) ∙ ap command-back (sym p ∙ q) ∙ command-undo d
+
 pub event-some : (e : Event) → event-words e ≡ [] → ⊥
 event-some (Event.Read i v) h = let z : _≡_ {A = ℕ} 0 1 = cc in omega arith
 event-some (Event.Up n c) h = let z : _≡_ {A = ℕ} 0 1 = cc in omega arith

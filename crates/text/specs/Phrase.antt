@@ -13,4 +13,5 @@ phrase Expected.Up = codes "`up N` and `put A B`, `sleep` or `wake`, each number
 phrase Expected.Frame = codes "`frame` and twelve numbers below 18446744073709551616"
 phrase Expected.Hit = codes "`hit C W V`, C below 3, W below " ++ (decimal kept-words ++ codes " and V below 18446744073709551616")
 phrase Expected.Tick = codes "`tick` alone"
+phrase Expected.Command = codes "`put A B`, `sleep` or `wake`, each number below 4294967296"
 phrase Expected.TickFirst = codes "`tick` before another frame comes up"

@@ -4,11 +4,8 @@ use mathlib.Core.List.{List, [], _∷_, _++_}
 use Prim.Native.Nat.{ℕ}
 use Rattle.std.specs.Written.{decimal}
 use Rattle.text.specs.declared.words.Word.{Word}
-use Rattle.text.specs.declared.event.Event.{Event}
 use Rattle.text.specs.declared.fault.Fault.{Fault}
 use Rattle.text.specs.declared.fault.Fault.the-variants.{Memory}
-use Rattle.text.specs.Table.{event-words}
-use Rattle.text.specs.Text.{Told, Failed}
 use Rattle.text.specs.Words.{spelt}
 
 -- numbers, each after a space
@@ -21,8 +18,8 @@ abbrev pub rendered : {E : Type 0} → (E → List Word) → List E → List ℕ
 rendered table [] = []
 rendered table (e ∷ es) = spelt (table e) ++ (10 ∷ rendered table es)
 
--- a text that is read as these events, or not at all for want of memory
-pub record Only (text : List ℕ) (es : List Event) : Type 0 where
-  pub told : Told text es
-  pub once : (fs : List Event) → Told text fs → fs ≡ es
-  pub faultless : (f : Fault) → Failed text f → f ≡ Memory
+-- a text is read as these, or not at all for want of memory
+pub record Only (E : Type 0) (Tells : List E → Type 0) (Fails : Fault → Type 0) (es : List E) : Type 0 where
+  pub told : Tells es
+  pub once : (fs : List E) → Tells fs → fs ≡ es
+  pub faultless : (f : Fault) → Fails f → f ≡ Memory

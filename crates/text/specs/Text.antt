@@ -6,17 +6,18 @@ use Prim.Native.Nat.{ℕ, _+_, _<_}
 use lib.ListN.{length, take, getD}
 use Rattle.std.specs.declared.option.Option.{Option}
 use Rattle.std.specs.declared.option.Option.the-variants.{None, Some}
+use Rattle.frame.specs.declared.Command.{Command}
 use Rattle.text.specs.declared.words.Word.{Word}
 use Rattle.text.specs.declared.words.Word.the-variants.{Number, Read, Up, Frame, Hit, Tick, Put, Sleep, Wake, Other}
 use Rattle.text.specs.declared.event.Event.{Event}
 use Rattle.text.specs.declared.fault.Expected.{Expected}
 use Rattle.text.specs.declared.fault.Fault.{Fault}
 use Rattle.text.specs.declared.fault.Fault.the-variants.{Unreadable, Memory}
-use Rattle.text.specs.declared.flight.Reading.{Reading}
-use Rattle.text.specs.declared.flight.Reading.the-variants.{Nothing, Said, Unread}
+use Rattle.text.specs.declared.fault.Reading.{Reading}
+use Rattle.text.specs.declared.fault.Reading.the-variants.{Nothing, Said, Unread}
 use Rattle.text.specs.Words.{lines}
-use Rattle.text.specs.Table.{event-words}
-use Rattle.text.specs.Law.{bounded, allowed, lawful}
+use Rattle.text.specs.Table.{command-words, event-words}
+use Rattle.text.specs.Law.{bounded, allowed, lawful, command-bounded, all-commandable}
 
 -- the lines that have words
 abbrev pub spoken : List (List Word) → List (List Word)
@@ -64,8 +65,8 @@ abbrev pub Bounded : List Word → Option Event → Type 0
 Bounded ws None = Sound ws → ⊥
 Bounded ws (Some e) = (bounded e ≡ true) × (ws ≡ event-words e)
 
--- one line, where a frame has been heard since the last tick or not
-abbrev pub Reads : Bool → List Word → Reading → Type 0
+-- one line of a flight text, where a frame has been heard since the last tick or not
+abbrev pub Reads : Bool → List Word → Reading Event → Type 0
 Reads heard ws Nothing = ws ≡ []
 Reads heard ws (Said e) = (allowed heard e ≡ true) × (ws ≡ event-words e)
 Reads heard ws (Unread x) = (ws ≡ [] → ⊥) × ((e : Event) → allowed heard e ≡ true → ws ≡ event-words e → ⊥) × Expects ws x
@@ -77,3 +78,17 @@ Told text es = Says event-words (lines text) es × (lawful es ≡ true)
 abbrev pub Failed : List ℕ → Fault → Type 0
 Failed text (Unreadable n x) = FirstFault Event event-words lawful (lines text) n × Expects (getD (lines text) n []) x
 Failed text Memory = Unit {0}
+
+-- one line of a text of commands
+abbrev pub Orders : List Word → Reading Command → Type 0
+Orders ws Nothing = ws ≡ []
+Orders ws (Said c) = (command-bounded c ≡ true) × (ws ≡ command-words c)
+Orders ws (Unread x) = (ws ≡ [] → ⊥) × ((c : Command) → command-bounded c ≡ true → ws ≡ command-words c → ⊥) × (x ≡ Expected.Command)
+
+-- a text says these commands, and they are lawful
+abbrev pub Ordered : List ℕ → List Command → Type 0
+Ordered text cs = Says command-words (lines text) cs × (all-commandable cs ≡ true)
+
+abbrev pub Disordered : List ℕ → Fault → Type 0
+Disordered text (Unreadable n x) = FirstFault Command command-words all-commandable (lines text) n × (x ≡ Expected.Command)
+Disordered text Memory = Unit {0}

@@ -18,6 +18,8 @@ pub enum Expected {
     Frame,
     Hit,
     Tick,
+    /// A command alone, in a text of commands.
+    Command,
     /// A tick before this line: a frame has already come up since the last one.
     TickFirst,
 }
@@ -28,6 +30,16 @@ pub enum Fault {
     Unreadable { line: usize, expected: Expected },
     /// There is no memory left.
     Memory,
+}
+
+/// What one line says.
+#[derive(Drop)]
+pub enum Reading<T> {
+    /// It has no words.
+    Nothing,
+    Said(T),
+    /// It should have been something else.
+    Unread(Expected),
 }
 
 pub impl fmt::Display for Expected as ExpectedDisplay {
@@ -41,6 +53,7 @@ pub impl fmt::Display for Expected as ExpectedDisplay {
             Expected::Frame => write!(f, "`frame` and twelve numbers below 18446744073709551616"),
             Expected::Hit => write!(f, "`hit C W V`, C below 3, W below {WORDS} and V below 18446744073709551616"),
             Expected::Tick => write!(f, "`tick` alone"),
+            Expected::Command => write!(f, "`put A B`, `sleep` or `wake`, each number below 4294967296"),
             Expected::TickFirst => write!(f, "`tick` before another frame comes up"),
         }
     }

@@ -8,13 +8,12 @@ ghost use Rattle.text.specs.Text.{wanted as wanting, Bounded, Reads, Told, Fai
 use crate::cut::Stop;
 use crate::cut::piece_len;
 use crate::event::Event;
-use crate::event::EventDebug;
 use crate::event::event_of;
 use crate::fault::Expected;
-use crate::fault::ExpectedDebug;
 use crate::fault::Fault;
 use crate::fault::FaultFromAlloc;
 use crate::fault::FaultFromRefused;
+use crate::fault::Reading;
 use crate::law::bounded;
 use crate::law::brings;
 use crate::law::heard_after;
@@ -49,23 +48,15 @@ pub fn parse(heap: Global, text: &[u8]) -> Result<Vec<Event>, Fault>
     }
 }
 
-// What one line says.
-#[derive(Clone, Copy, Debug, Drop)]
-pub enum Reading {
-    Nothing,
-    Said(Event),
-    Unread(Expected),
-}
-
 // Reads a line, after a frame in this tick or not.
-fn read_line(heap: Global, line: &[u8], heard: bool) -> Result<Reading, AllocError>
+fn read_line(heap: Global, line: &[u8], heard: bool) -> Result<Reading<Event>, AllocError>
     ensures { λ r. ⌜ made r (λ v. Reads heard (line-words (now (line .entry))) v) ⌝ }
 {
     let words = words_of(heap, line)?;
     Ok(read_words(words.as_slice(), heard))
 }
 
-fn read_words(words: &[Word], heard: bool) -> Reading
+fn read_words(words: &[Word], heard: bool) -> Reading<Event>
     ensures { λ r. ⌜ Reads heard (now (words .entry)) r ⌝ }
 {
     if words.is_empty() {

@@ -7,6 +7,7 @@ ghost use Rattle.std.specs.Vec.{made};
 ghost use Rattle.std.specs.Written.{Prints};
 ghost use Rattle.text.specs.Law.{lawful};
 ghost use Rattle.text.specs.Table.{command-words, event-words};
+ghost use Rattle.text.specs.Text.{Told, Failed};
 ghost use Rattle.text.specs.Words.{spelt};
 ghost use Rattle.text.specs.Render.{listed, rendered, Only};
 use crate::event::Event;
@@ -19,7 +20,7 @@ use std::fmt;
 /// A text that says the events, one to a line. Where they are lawful, parsing it gives them back.
 pub fn render(heap: Global, events: &[Event]) -> Result<String, AllocError>
     ensures text { λ r. ⌜ made r (λ s. string-bytes s ≡ rendered event-words (now (events .entry))) ⌝ }
-    ensures back { λ r. ⌜ made r (λ s. lawful (now (events .entry)) ≡ true → Only (string-bytes s) (now (events .entry))) ⌝ }
+    ensures back { λ r. ⌜ made r (λ s. lawful (now (events .entry)) ≡ true → Only Event (Told (string-bytes s)) (Failed (string-bytes s)) (now (events .entry))) ⌝ }
 {
     let mut out = String::new(heap);
     for event in events {

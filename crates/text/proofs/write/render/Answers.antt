@@ -4,8 +4,10 @@ use mathlib.Core.List.{List, _++_}
 use Prim.Native.Nat.{ℕ}
 use Rattle.std.specs.Of.String.{string-bytes}
 use Rattle.std.proofs.shelf.Parts.{pushed}
+use Rattle.text.specs.declared.event.Event.{Event}
 use Rattle.text.specs.Render.{Only}
 use Rattle.text.specs.Table.{event-words}
+use Rattle.text.specs.Text.{Told, Failed}
 use Rattle.text.proofs.Once.{read-back}
 use Rattle.text.proofs.Rendering.{more-rendered, all-rendered}
 use Rattle.text.proofs.write.render.Needs as need
@@ -19,4 +21,4 @@ loop-event-again c =
 pub returns : need.returns
 returns c =
     let e = all-rendered event-words (c .args .events .now) (c .loop-event .event-index) _ _ (c .loop-event-test .left) (c .loop-event .inv) in
-    record { text = e; back = λ l. subst (λ (bs : List ℕ). Only bs (c .args .events .now)) (sym e) (read-back _ l) }
+    record { text = e; back = λ l. subst (λ (bs : List ℕ). Only Event (Told bs) (Failed bs) (c .args .events .now)) (sym e) (read-back _ l) }

@@ -20,3 +20,6 @@ returns-in-Tick g c = simp (c .in-Tick .is) (c .write-in-Tick .ensures .shows)
 
 pub returns-in-TickFirst : need.returns-in-TickFirst
 returns-in-TickFirst g c = simp (c .in-TickFirst .is) (c .write-in-TickFirst .ensures .shows)
+
+pub returns-in-Command : need.returns-in-Command
+returns-in-Command g c = simp (c .in-Command .is) (c .write-in-Command .ensures .shows)
