@@ -3,7 +3,7 @@ ghost use mathlib.Core.Path.{_≡_};
 ghost use Rattle.text.specs.Cut.{First, stops};
 
 /// What ends at the first byte that stops it.
-#[derive(Clone, Copy, Debug, Drop)]
+#[derive(Clone, Copy, Drop)]
 pub enum Stop {
     /// A line ends at a newline.
     Line,

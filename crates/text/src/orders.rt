@@ -76,8 +76,9 @@ pub fn render_commands(heap: Global, commands: &[Command]) -> Result<String, All
     let mut out = String::new(heap);
     for command in commands {
         let order = Order(*command);
-        let line = format!(heap, "{order}\n")?;
-        out.push_str(line.as_str())?;
+        let Ok(()) = writeln!(out, "{order}") else {
+            return Err(AllocError);
+        };
     }
     Ok(out)
 }

@@ -11,7 +11,7 @@ use std::alloc::AllocError;
 use std::alloc::Global;
 
 /// A word: a decimal number below 2^64, a name that some line uses, or any other.
-#[derive(Clone, Copy, Debug, Drop)]
+#[derive(Clone, Copy, Drop)]
 pub enum Word {
     Number(u64),
     Read,

@@ -12,7 +12,6 @@ ghost use Rattle.text.specs.Words.{spelt};
 ghost use Rattle.text.specs.Render.{listed, rendered, Only};
 use crate::event::Event;
 use frame::Command;
-use frame::CommandDebug;
 use std::alloc::AllocError;
 use std::alloc::Global;
 use std::fmt;
@@ -24,8 +23,9 @@ pub fn render(heap: Global, events: &[Event]) -> Result<String, AllocError>
 {
     let mut out = String::new(heap);
     for event in events {
-        let line = format!(heap, "{event}\n")?;
-        out.push_str(line.as_str())?;
+        let Ok(()) = writeln!(out, "{event}") else {
+            return Err(AllocError);
+        };
     }
     Ok(out)
 }
@@ -51,7 +51,7 @@ pub impl fmt::Display for Event as EventDisplay {
 }
 
 /// A command as a text says it.
-#[derive(Clone, Copy, Debug, Drop)]
+#[derive(Clone, Copy, Drop)]
 pub struct Order(pub Command);
 
 pub impl fmt::Display for Order as OrderDisplay {

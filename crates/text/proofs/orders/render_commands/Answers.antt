@@ -1,9 +1,7 @@
-use mathlib.Core.Path.{_≡_, refl, sym, ap, subst, _∙_}
-use mathlib.Core.Bool.{true}
-use mathlib.Core.List.{List, _++_}
+use mathlib.Core.Path.{sym, subst}
+use mathlib.Core.List.{List}
 use Prim.Native.Nat.{ℕ}
 use Rattle.std.specs.Of.String.{string-bytes}
-use Rattle.std.proofs.shelf.Parts.{pushed}
 use Rattle.frame.specs.declared.Command.{Command}
 use Rattle.text.specs.Render.{Only}
 use Rattle.text.specs.Table.{command-words}
@@ -15,8 +13,7 @@ use Rattle.text.proofs.orders.render_commands.Needs as need
 pub loop-command-again : need.loop-command-again
 loop-command-again c =
     more-rendered command-words (c .args .commands .now) (c .loop-command .command-index) _ (string-bytes (c .loop-command .out)) _ _ (c .loop-command-test .taken) (c .loop-command .inv)
-    (pushed {was = string-bytes (c .loop-command .out)} (c .as-str .result .now) refl (c .in-Continue-push-str .was tt) (c .push-str .ensures .bytes)
-      ∙ ap (λ (x : List ℕ). string-bytes (c .loop-command .out) ++ x) (c .as-str .ensures .value ∙ c .in-Continue-line .ensures tt .made))
+    (c .in-Ok .ensures tt .bytes)
 
 pub returns : need.returns
 returns c =

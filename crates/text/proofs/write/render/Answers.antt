@@ -1,9 +1,7 @@
-use mathlib.Core.Path.{_≡_, refl, sym, ap, subst, _∙_}
-use mathlib.Core.Bool.{true}
-use mathlib.Core.List.{List, _++_}
+use mathlib.Core.Path.{sym, subst}
+use mathlib.Core.List.{List}
 use Prim.Native.Nat.{ℕ}
 use Rattle.std.specs.Of.String.{string-bytes}
-use Rattle.std.proofs.shelf.Parts.{pushed}
 use Rattle.text.specs.declared.event.Event.{Event}
 use Rattle.text.specs.Render.{Only}
 use Rattle.text.specs.Table.{event-words}
@@ -15,8 +13,7 @@ use Rattle.text.proofs.write.render.Needs as need
 pub loop-event-again : need.loop-event-again
 loop-event-again c =
     more-rendered event-words (c .args .events .now) (c .loop-event .event-index) _ (string-bytes (c .loop-event .out)) _ _ (c .loop-event-test .taken) (c .loop-event .inv)
-    (pushed {was = string-bytes (c .loop-event .out)} (c .as-str .result .now) refl (c .in-Continue-push-str .was tt) (c .push-str .ensures .bytes)
-      ∙ ap (λ (x : List ℕ). string-bytes (c .loop-event .out) ++ x) (c .as-str .ensures .value ∙ c .in-Continue-line .ensures tt .made))
+    (c .in-Ok .ensures tt .bytes)
 
 pub returns : need.returns
 returns c =
