@@ -1,10 +1,14 @@
 -- What is written piece by piece.
 use mathlib.Core.Path.{_≡_, refl, sym, ap, subst, _∙_}
+use mathlib.Core.Bool.{true}
 use mathlib.Core.List.{List, [], _∷_, _++_, append-nil, append-assoc, map}
 use Prim.Native.Nat.{ℕ, _+_, _≤_, _<_}
 use lib.ListN.{length, take, getD}
 use Rattle.std.specs.Iters.{chained}
 use Rattle.std.specs.Written.{joined, Wrote, Put, decimal}
+use Rattle.std.specs.Results.{isOk}
+use Rattle.std.specs.declared.result.Result.{Result}
+use Rattle.std.specs.declared.result.Result.the-variants.{Ok}
 use Rattle.std.specs.declared.fmt.Formatter.{Formatter}
 use Rattle.std.proofs.shelf.Lists.{take-more, take-all}
 use Rattle.text.specs.declared.words.Word.{Word}
@@ -52,3 +56,6 @@ listed-all xs i l = ap listed (take-all i xs l)
 pub spelt-listed : (w : Word) (xs : List ℕ) → spelt (w ∷ map Number xs) ≡ written w ++ listed xs
 spelt-listed w [] = sym (append-nil (written w))
 spelt-listed w (x ∷ xs) = ap (λ (l : List ℕ). written w ++ (32 ∷ l)) (spelt-listed (Number x) xs)
+
+pub ok-is : {V E : Type 0} (r : Result V E) (v : V) → r ≡ Ok v → isOk r ≡ true
+ok-is r v e = ap isOk e

@@ -2,6 +2,7 @@ use mathlib.Core.Path.{_≡_, refl, sym, ap, subst, _∙_}
 use mathlib.Core.Bool.{false}
 use mathlib.Core.List.{List, [], _∷_}
 use native.Mathlib.Omega.{arith}
+use lib.ListN.{length}
 use borrow.Author.Tests.{true-eqb, false-eqb}
 use Rattle.std.specs.Of.Vec.{vec-items}
 use Rattle.std.proofs.shelf.Parts.{pushed}
@@ -45,9 +46,9 @@ returns-in-Unread c =
 
 pub returns-then-is-empty : need.returns-then-is-empty
 returns-then-is-empty c =
-    last event-words lawful (c .loop-events .inv .0) (front (need.at·returns-then-is-empty c .After-split-at)) _ (added (need.at·returns-then-is-empty c .Joined-branch-2) .0) (true-eqb _ 0 (c .if-is-empty .ensures tt))
+    last event-words lawful (c .loop-events .inv .0) (front (need.at·returns-then-is-empty c .After-split-at)) _ (added (need.at·returns-then-is-empty c .Joined-branch-2) .0) (true-eqb (length (c .split-at .result .1 .now)) 0 (c .if-is-empty .ensures tt))
 
 pub loop-events-again : need.loop-events-again
 loop-events-again c =
     let a = added (need.at·loop-events-again c .Joined-branch-2) in
-    (next event-words lawful (c .loop-events .inv .0) (front (need.at·loop-events-again c .After-split-at)) (vec-items (c .match-branch-2 .events)) (a .0) (omega (arith, false-eqb _ 0 (c .if-is-empty .ensures tt))), a .1)
+    (next event-words lawful (c .loop-events .inv .0) (front (need.at·loop-events-again c .After-split-at)) (vec-items (c .match-branch-2 .events)) (a .0) (omega (arith, false-eqb (length (c .split-at .result .1 .now)) 0 (c .if-is-empty .ensures tt))), a .1)

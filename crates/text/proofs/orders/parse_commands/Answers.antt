@@ -1,6 +1,7 @@
 use mathlib.Core.Path.{_≡_, refl, ap, subst, _∙_}
 use mathlib.Core.List.{List, [], _∷_}
 use native.Mathlib.Omega.{arith}
+use lib.ListN.{length}
 use borrow.Author.Tests.{true-eqb, false-eqb}
 use Rattle.std.specs.Of.Vec.{vec-items}
 use Rattle.std.proofs.shelf.Parts.{pushed}
@@ -41,8 +42,8 @@ returns-in-Unread c =
 
 pub returns-then-is-empty : need.returns-then-is-empty
 returns-then-is-empty c =
-    last command-words all-commandable (c .loop-commands .inv) (front (need.at·returns-then-is-empty c .After-split-at)) _ (added (need.at·returns-then-is-empty c .Joined-branch-2)) (true-eqb _ 0 (c .if-is-empty .ensures tt))
+    last command-words all-commandable (c .loop-commands .inv) (front (need.at·returns-then-is-empty c .After-split-at)) _ (added (need.at·returns-then-is-empty c .Joined-branch-2)) (true-eqb (length (c .split-at .result .1 .now)) 0 (c .if-is-empty .ensures tt))
 
 pub loop-commands-again : need.loop-commands-again
 loop-commands-again c =
-    next command-words all-commandable (c .loop-commands .inv) (front (need.at·loop-commands-again c .After-split-at)) (vec-items (c .match-branch-2 .commands)) (added (need.at·loop-commands-again c .Joined-branch-2)) (omega (arith, false-eqb _ 0 (c .if-is-empty .ensures tt)))
+    next command-words all-commandable (c .loop-commands .inv) (front (need.at·loop-commands-again c .After-split-at)) (vec-items (c .match-branch-2 .commands)) (added (need.at·loop-commands-again c .Joined-branch-2)) (omega (arith, false-eqb (length (c .split-at .result .1 .now)) 0 (c .if-is-empty .ensures tt)))
