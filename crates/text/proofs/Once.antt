@@ -46,12 +46,15 @@ first-lawful h (suc n) (e ∷ es) l =
 below : (x n : ℕ) → ltb x n ≡ true → n < 2 ^ 64 + 1 → x < 2 ^ 64
 below x n l m = omega (arith, ltb-true x n l)
 
-all-writable : (xs : List ℕ) → all-below (2 ^ 64) xs ≡ true → All Writable (map Number xs)
-all-writable [] l = tt
-all-writable (x ∷ xs) l = let t = and-parts (ltb x (2 ^ 64)) (all-below (2 ^ 64) xs) l in (ltb-true x (2 ^ 64) (t .0), all-writable xs (t .1))
+all-writable : (n : ℕ) → n < 2 ^ 64 + 1 → (xs : List ℕ) → all-below n xs ≡ true → All Writable (map Number xs)
+all-writable n m [] l = tt
+all-writable n m (x ∷ xs) l = let t = and-parts (ltb x n) (all-below n xs) l in (below x n (t .0) m, all-writable n m xs (t .1))
+
+carried : (xs : List ℕ) → all-below 4294967296 xs ≡ true → All Writable (map Number xs)
+carried xs l = all-writable 4294967296 (omega arith) xs l
 
 pub command-writable : (c : Command) → command-bounded c ≡ true → All Writable (command-words c)
-command-writable (Command.Put a b) l = let t = and-parts (ltb a 4294967296) (ltb b 4294967296) l in (tt, (below a _ (t .0) (omega arith), (below b _ (t .1) (omega arith), tt)))
+command-writable (Command.Put a b) l = (tt, carried (a ∷ b ∷ []) l)
 command-writable Command.Sleep l = (tt, tt)
 command-writable Command.Wake l = (tt, tt)
 command-writable (Command.Unknown k) l = absurd (let z : _≡_ {A = ℕ} 0 1 = cc in omega arith)
@@ -59,7 +62,7 @@ command-writable (Command.Unknown k) l = absurd (let z : _≡_ {A = ℕ} 0 1 = c
 event-writable : (e : Event) → bounded e ≡ true → All Writable (event-words e)
 event-writable (Event.Read i v) l = let t = and-parts (ltb i 16) (ltb v 65536) l in (tt, (below i _ (t .0) (omega arith), (below v _ (t .1) (omega arith), tt)))
 event-writable (Event.Up n c) l = let t = and-parts (ltb n 4294967296) (command-bounded c) l in (tt, (below n _ (t .0) (omega arith), command-writable c (t .1)))
-event-writable (Event.Frame xs) l = (tt, all-writable xs (and-parts (eqb (length xs) 12) (all-below (2 ^ 64) xs) l .1))
+event-writable (Event.Frame xs) l = (tt, all-writable (2 ^ 64) (omega arith) xs (and-parts (eqb (length xs) 12) (all-below (2 ^ 64) xs) l .1))
 event-writable (Event.Hit c w v) l =
     let t = and-parts (ltb c 3) (ltb w kept-words && ltb v (2 ^ 64)) l in
     let u = and-parts (ltb w kept-words) (ltb v (2 ^ 64)) (t .1) in

@@ -1,23 +1,25 @@
 -- A list by its length and its elements, and by its first elements and the rest.
 use mathlib.Core.Path.{_≡_, sym, ap, _∙_}
 use mathlib.Core.List.{List, [], _∷_}
-use Prim.Native.Nat.{ℕ, _-_, _<_}
+use Prim.Native.Nat.{ℕ, suc, _-_, _<_}
 use native.Mathlib.Omega.{arith}
 use lib.ListN.{length, getD, take, drop}
 use Rattle.std.proofs.shelf.Lists.{nil-from-length, take-all}
 
-pub like-1 : {X : Type 0} (ws : List X) (d a : X) → length ws ≡ 1 → getD ws 0 d ≡ a → ws ≡ a ∷ []
-like-1 [] d a l p = absurd (omega arith)
-like-1 (x ∷ ws) d a l p = λ i. p i ∷ nil-from-length ws (omega arith) i
+-- from place n on, these are the elements
+abbrev Are : {X : Type 0} → List X → X → ℕ → List X → Type 0
+Are ws d n [] = Unit {0}
+Are ws d n (x ∷ xs) = (getD ws n d ≡ x) × Are ws d (suc n) xs
 
-pub like-3 : {X : Type 0} (ws : List X) (d a b c : X) → length ws ≡ 3 → getD ws 0 d ≡ a → getD ws 1 d ≡ b → getD ws 2 d ≡ c → ws ≡ a ∷ b ∷ c ∷ []
-like-3 [] d a b c l p q r = absurd (omega arith)
-like-3 (x ∷ []) d a b c l p q r = absurd (omega arith)
-like-3 (x ∷ y ∷ ws) d a b c l p q r = λ i. p i ∷ q i ∷ like-1 ws d c (omega arith) r i
+are-rest : {X : Type 0} (w : X) (ws : List X) (d : X) (n : ℕ) (xs : List X) → Are (w ∷ ws) d (suc n) xs → Are ws d n xs
+are-rest w ws d n [] a = tt
+are-rest w ws d n (x ∷ xs) a = (a .0, are-rest w ws d (suc n) xs (a .1))
 
-pub like-4 : {X : Type 0} (ws : List X) (d a b c e : X) → length ws ≡ 4 → getD ws 0 d ≡ a → getD ws 1 d ≡ b → getD ws 2 d ≡ c → getD ws 3 d ≡ e → ws ≡ a ∷ b ∷ c ∷ e ∷ []
-like-4 [] d a b c e l p q r s = absurd (omega arith)
-like-4 (x ∷ ws) d a b c e l p q r s = λ i. p i ∷ like-3 ws d b c e (omega arith) q r s i
+-- the code's `[a, b, c]`
+pub like : {X : Type 0} (ws : List X) (d : X) (xs : List X) → length ws ≡ length xs → Are ws d 0 xs → ws ≡ xs
+like ws d [] l a = nil-from-length ws l
+like [] d (x ∷ xs) l a = absurd (omega arith)
+like (w ∷ ws) d (x ∷ xs) l a = λ i. a .0 i ∷ like ws d xs (omega arith) (are-rest w ws d 0 xs (a .1)) i
 
 -- the code's `[a, rest @ ..]`
 pub headed : {X : Type 0} (ws : List X) (d a : X) (k : ℕ) → 0 < length ws → getD ws 0 d ≡ a → k ≡ length ws → ws ≡ a ∷ take (k - 1) (drop 1 ws)

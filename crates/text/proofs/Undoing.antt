@@ -4,26 +4,22 @@ use mathlib.Core.List.{List, [], _∷_, map}
 use Prim.Native.Nat.{ℕ}
 use native.Mathlib.Omega.{arith}
 use lib.ListN.{getD, drop}
+use Rattle.std.specs.declared.option.Option.{Option}
+use Rattle.std.specs.declared.option.Option.the-variants.{None, Some}
 use Rattle.frame.specs.declared.Command.{Command}
 use Rattle.text.specs.declared.words.Word.{Word}
 use Rattle.text.specs.declared.words.Word.the-variants.{Number, Read, Up, Frame, Hit, Tick, Put, Sleep, Wake, Other}
 use Rattle.text.specs.declared.event.Event.{Event}
-use Rattle.text.specs.Table.{command-words, event-words}
+use Rattle.text.specs.Table.{command-words, event-words, amount}
+
+or-zero : Option ℕ → ℕ
+or-zero None = 0
+or-zero (Some n) = n
 
 num : Word → ℕ
-num (Number n) = n
-num Read = 0
-num Up = 0
-num Frame = 0
-num Hit = 0
-num Tick = 0
-num Put = 0
-num Sleep = 0
-num Wake = 0
-num Other = 0
+num w = or-zero (amount w)
 
 nth : List Word → ℕ → ℕ
-unfolding num
 nth ws i = num (getD ws i Other)
 
 command-named : Word → List Word → Command
@@ -42,7 +38,7 @@ pub command-back : List Word → Command
 command-back ws = command-named (getD ws 0 Other) ws
 
 pub command-undo : (c : Command) → command-back (command-words c) ≡ c
-unfolding command-back command-named nth num
+unfolding command-back command-named nth num or-zero
 command-undo (Command.Put a b) = refl
 command-undo Command.Sleep = refl
 command-undo Command.Wake = refl
@@ -64,12 +60,12 @@ pub event-back : List Word → Event
 event-back ws = event-named (getD ws 0 Other) ws
 
 all-num : (xs : List ℕ) → map num (map Number xs) ≡ xs
-unfolding num
+unfolding num or-zero
 all-num [] = refl
 all-num (x ∷ xs) = ap (λ (l : List ℕ). x ∷ l) (all-num xs)
 
 pub event-undo : (e : Event) → event-back (event-words e) ≡ e
-unfolding event-back event-named nth num
+unfolding event-back event-named nth num or-zero
 event-undo (Event.Read i v) = refl
 event-undo (Event.Up n c) = ap (Event.Up n) (command-undo c)
 event-undo (Event.Frame xs) = ap Event.Frame (all-num xs)

@@ -11,15 +11,16 @@ use Rattle.text.specs.declared.event.Event.{Event}
 abbrev pub kept-words : ℕ
 kept-words = 69
 
-abbrev pub command-bounded : Command → Bool
-command-bounded (Command.Put a b) = ltb a 4294967296 && ltb b 4294967296
-command-bounded Command.Sleep = true
-command-bounded Command.Wake = true
-command-bounded (Command.Unknown k) = false
-
 abbrev pub all-below : ℕ → List ℕ → Bool
 all-below n [] = true
 all-below n (x ∷ xs) = ltb x n && all-below n xs
+
+-- what a frame can carry; an unknown command has no name to write
+abbrev pub command-bounded : Command → Bool
+command-bounded (Command.Put a b) = all-below 4294967296 (a ∷ b ∷ [])
+command-bounded Command.Sleep = true
+command-bounded Command.Wake = true
+command-bounded (Command.Unknown k) = false
 
 abbrev pub bounded : Event → Bool
 bounded (Event.Read i v) = ltb i 16 && ltb v 65536

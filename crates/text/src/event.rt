@@ -2,11 +2,10 @@
 ghost use mathlib.Core.Path.{_≡_};
 ghost use Rattle.text.specs.Table.{amount as amounts, Numbers, Commands, Events};
 use frame::Command;
-use frame::CommandDebug;
 use crate::words::Word;
 
 /// What a line of a flight text says.
-#[derive(Clone, Copy, Debug, Drop)]
+#[derive(Clone, Copy, Drop)]
 pub enum Event {
     /// An instrument reads a value in the next tick.
     Read { instrument: u64, value: u64 },

@@ -5,4 +5,4 @@ use Rattle.text.proofs.Undoing.{same-event}
 use Rattle.text.proofs.flight.bounded_event.Needs as need
 
 pub returns-in-rest : need.returns-in-rest
-returns-in-rest c = λ s. false≢true (sym (c .if-bounded .left) ∙ c .bounded .ensures ∙ ap bounded (same-event _ (c .in-Some .event) (s .0) (c .in-Some .ensures tt) (s .2)) ∙ s .1)
+returns-in-rest c = λ s. false≢true (c .if-bounded .ensures tt ∙ ap bounded (same-event _ (c .in-Some .event) (s .0) (c .in-Some .ensures tt) (s .2)) ∙ s .1)
