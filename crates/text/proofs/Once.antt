@@ -96,9 +96,9 @@ read-back es l =
       faultless = λ f q. no-fault f q s;
     }
   where
-  no-fault : (f : Fault) → Failed (rendered event-words es) f → Says event-words (lines (rendered event-words es)) es → f ≡ Memory
-  no-fault (Unreadable n x) q s = absurd (not-both event-words lawful (first-lawful false) _ n es s l (q .0))
-  no-fault Memory q s = refl
+    no-fault : (f : Fault) → Failed (rendered event-words es) f → Says event-words (lines (rendered event-words es)) es → f ≡ Memory
+    no-fault (Unreadable n x) q s = absurd (not-both event-words lawful (first-lawful false) _ n es s l (q .0))
+    no-fault Memory q s = refl
 
 -- and so is that of commands
 pub orders-back : (cs : List Command) → all-commandable cs ≡ true → Only Command (Ordered (rendered command-words cs)) (Disordered (rendered command-words cs)) cs
@@ -110,6 +110,6 @@ orders-back cs l =
       faultless = λ f q. no-fault f q s;
     }
   where
-  no-fault : (f : Fault) → Disordered (rendered command-words cs) f → Says command-words (lines (rendered command-words cs)) cs → f ≡ Memory
-  no-fault (Unreadable n x) q s = absurd (not-both command-words all-commandable first-commandable _ n cs s l (q .0))
-  no-fault Memory q s = refl
+    no-fault : (f : Fault) → Disordered (rendered command-words cs) f → Says command-words (lines (rendered command-words cs)) cs → f ≡ Memory
+    no-fault (Unreadable n x) q s = absurd (not-both command-words all-commandable first-commandable _ n cs s l (q .0))
+    no-fault Memory q s = refl

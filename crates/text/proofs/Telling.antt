@@ -110,7 +110,7 @@ module _ {E : Type 0} (table : E → List Word) (law : List E → Bool) {text re
         within = omega (arith, ap length on, length-append (h .done ++ line-words one ∷ []) (map line-words (further (stops Line) more)), length-push (h .done) (line-words one), h .long);
         before = (es, ap spoken (ap (take line) (h .cutting) ∙ take-at (h .done) (lines rest) line (h .long)) ∙ h .says, h .lawful);
         silent = λ fs q k.
-          let e : take (line + 1) (lines text) ≡ h .done ++ line-words one ∷ [] = ap (take (line + 1)) on ∙ take-at (h .done ++ line-words one ∷ []) _ (line + 1) (length-push (h .done) (line-words one) ∙ ap (λ (k : ℕ). k + 1) (h .long)) in
-          let o = one-over table back undo (h .done) (line-words one) es fs n (h .says) (subst (λ (ls : List (List Word)). Says table ls fs) e q) in
-          never (back (line-words one)) (sym (ap law (o .0)) ∙ k) (o .1);
+            let e : take (line + 1) (lines text) ≡ h .done ++ line-words one ∷ [] = ap (take (line + 1)) on ∙ take-at (h .done ++ line-words one ∷ []) _ (line + 1) (length-push (h .done) (line-words one) ∙ ap (λ (k : ℕ). k + 1) (h .long)) in
+            let o = one-over table back undo (h .done) (line-words one) es fs n (h .says) (subst (λ (ls : List (List Word)). Says table ls fs) e q) in
+            never (back (line-words one)) (sym (ap law (o .0)) ∙ k) (o .1);
       }

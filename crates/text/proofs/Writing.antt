@@ -40,7 +40,6 @@ module _ {W : Type 0} (took : W → List ℕ → W → Type 0) where
   pub put-is : (f : Formatter W) (a b : List ℕ) (g : Formatter W) → a ≡ b → Put took f a g → Put took f b g
   put-is f a b g e = subst (λ (l : List ℕ). Put took f l g) e
 
-
 listed-append : (xs ys : List ℕ) → listed (xs ++ ys) ≡ listed xs ++ listed ys
 listed-append [] ys = refl
 listed-append (x ∷ xs) ys = ap (λ (l : List ℕ). 32 ∷ (decimal x ++ l)) (listed-append xs ys) ∙ ap (λ (l : List ℕ). 32 ∷ l) (sym (append-assoc (decimal x) (listed xs) (listed ys)))

@@ -1,8 +1,8 @@
 //! The events of a flight, and the words that say them.
 ghost use mathlib.Core.Path.{_≡_};
 ghost use Rattle.text.specs.Table.{amount as amounts, Numbers, Commands, Events};
-use frame::Command;
 use crate::words::Word;
+use frame::Command;
 
 /// What a line of a flight text says.
 #[derive(Clone, Copy, Drop)]
@@ -24,9 +24,15 @@ pub fn event_of(words: &[Word]) -> Option<Event>
     ensures { λ r. ⌜ Events (now (words .entry)) r ⌝ }
 {
     match words {
-        [Word::Read, Word::Number(i), Word::Number(v)] => Some(Event::Read { instrument: *i, value: *v }),
+        [Word::Read, Word::Number(i), Word::Number(v)] => Some(Event::Read {
+            instrument: *i,
+            value: *v,
+        }),
         [Word::Up, Word::Number(n), rest @ ..] => match command_of(rest) {
-            Some(command) => Some(Event::Up { number: *n, command }),
+            Some(command) => Some(Event::Up {
+                number: *n,
+                command,
+            }),
             None => None,
         },
         [Word::Frame, rest @ ..] => match twelve(rest) {
@@ -34,7 +40,11 @@ pub fn event_of(words: &[Word]) -> Option<Event>
             None => None,
         },
         [Word::Hit, Word::Number(c), Word::Number(w), Word::Number(v)] => {
-            Some(Event::Hit { copy: *c, word: *w, value: *v })
+            Some(Event::Hit {
+                copy: *c,
+                word: *w,
+                value: *v,
+            })
         }
         [Word::Tick] => Some(Event::Tick),
         _ => None,
@@ -46,7 +56,10 @@ pub fn command_of(words: &[Word]) -> Option<Command>
     ensures { λ r. ⌜ Commands (now (words .entry)) r ⌝ }
 {
     match words {
-        [Word::Put, Word::Number(a), Word::Number(b)] => Some(Command::Put { place: *a, number: *b }),
+        [Word::Put, Word::Number(a), Word::Number(b)] => Some(Command::Put {
+            place: *a,
+            number: *b,
+        }),
         [Word::Sleep] => Some(Command::Sleep),
         [Word::Wake] => Some(Command::Wake),
         _ => None,

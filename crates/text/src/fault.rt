@@ -49,11 +49,20 @@ pub impl fmt::Display for Expected as ExpectedDisplay {
         match self {
             Expected::Event => write!(f, "`read`, `up`, `frame`, `hit` or `tick`"),
             Expected::Read => write!(f, "`read I V`, I below 16 and V below 65536"),
-            Expected::Up => write!(f, "`up N` and `put A B`, `sleep` or `wake`, each number below 4294967296"),
+            Expected::Up => write!(
+                f,
+                "`up N` and `put A B`, `sleep` or `wake`, each number below 4294967296"
+            ),
             Expected::Frame => write!(f, "`frame` and twelve numbers below 18446744073709551616"),
-            Expected::Hit => write!(f, "`hit C W V`, C below 3, W below {WORDS} and V below 18446744073709551616"),
+            Expected::Hit => write!(
+                f,
+                "`hit C W V`, C below 3, W below {WORDS} and V below 18446744073709551616"
+            ),
             Expected::Tick => write!(f, "`tick` alone"),
-            Expected::Command => write!(f, "`put A B`, `sleep` or `wake`, each number below 4294967296"),
+            Expected::Command => write!(
+                f,
+                "`put A B`, `sleep` or `wake`, each number below 4294967296"
+            ),
             Expected::TickFirst => write!(f, "`tick` before another frame comes up"),
         }
     }

@@ -8,7 +8,9 @@ use frame::Command;
 pub const WORDS: u64 = 69;
 
 const INSTRUMENTS: u64 = 16;
+
 const READINGS: u64 = 0x1_0000;
+
 const COPIES: u64 = 3;
 
 // What a frame can carry lies below this.

@@ -2,21 +2,21 @@
 mod cut;
 mod event;
 mod fault;
+mod flight;
 mod law;
 mod orders;
-mod flight;
 mod words;
 mod write;
 
 pub use event::Event;
-pub use write::EventDisplay;
 pub use fault::Expected;
 pub use fault::ExpectedDisplay;
 pub use fault::Fault;
+pub use flight::parse;
 pub use law::WORDS;
 pub use orders::parse_commands;
 pub use orders::render_commands;
-pub use flight::parse;
+pub use write::EventDisplay;
 pub use write::Order;
 pub use write::OrderDisplay;
 pub use write::render;

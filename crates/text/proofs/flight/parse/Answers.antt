@@ -24,25 +24,27 @@ front c = record { n = c .piece-len .result; first = c .piece-len .ensures; fron
 added : (c : Joined-branch-2) → Adds Event event-words lawful (line-words (c .split-at .result .0 .now)) (vec-items (c .loop-events .events)) (vec-items (c .match-branch-2 .events)) × (c .match-branch-2 .heard ≡ heard-after false (vec-items (c .match-branch-2 .events)))
 added c =
     elim (c .match-branch-2 .came) [
-      in-Nothing w ↦
-        let n = subst (Reads _ _) (w .in-Nothing .is) (c .in-Continue-read-line .ensures tt) in
-        (adds-nothing event-words lawful _ (vec-items (c .loop-events .events)) _ n (c .loop-events .inv .0 .lawful) (ap vec-items (w .events-is)), w .heard-is ∙ c .loop-events .inv .1 ∙ sym (ap (λ v. heard-after false (vec-items v)) (w .events-is)))
-    | in-Said·in-Continue-push w ↦
-        let r = subst (Reads _ _) (w .in-Said .is) (c .in-Continue-read-line .ensures tt) in
-        let e : Event = w .in-Said .event in
-        let p = ap vec-items (w .events-is) ∙ pushed (e ∷ []) refl (w .in-Continue-push .was tt) (w .push .ensures .items) in
-        let es : List Event = vec-items (c .loop-events .events) in
-        (adds-one event-words lawful _ es _ e (event-some e) (r .1) (one-lawful es _ (c .loop-events .inv .0 .lawful) (c .loop-events .inv .1) e (r .0)) p,
-         w .heard-is ∙ w .heard-after-heard .ensures ∙ one-heard es _ (c .loop-events .inv .0 .lawful) (c .loop-events .inv .1) e _ p)
+      | in-Nothing w ↦
+          let n = subst (Reads _ _) (w .in-Nothing .is) (c .in-Continue-read-line .ensures tt) in
+          (adds-nothing event-words lawful _ (vec-items (c .loop-events .events)) _ n (c .loop-events .inv .0 .lawful) (ap vec-items (w .events-is)), w .heard-is ∙ c .loop-events .inv .1 ∙ sym (ap (λ v. heard-after false (vec-items v)) (w .events-is)))
+      | in-Said·in-Continue-push w ↦
+          let r = subst (Reads _ _) (w .in-Said .is) (c .in-Continue-read-line .ensures tt) in
+          let e : Event = w .in-Said .event in
+          let p = ap vec-items (w .events-is) ∙ pushed (e ∷ []) refl (w .in-Continue-push .was tt) (w .push .ensures .items) in
+          let es : List Event = vec-items (c .loop-events .events) in (
+            adds-one event-words lawful _ es _ e (event-some e) (r .1) (one-lawful es _ (c .loop-events .inv .0 .lawful) (c .loop-events .inv .1) e (r .0)) p,
+            w .heard-is ∙ w .heard-after-heard .ensures ∙ one-heard es _ (c .loop-events .inv .0 .lawful) (c .loop-events .inv .1) e _ p,
+          )
     ]
 
 pub returns-in-Unread : need.returns-in-Unread
 returns-in-Unread c =
     let f = front (need.at·returns-in-Unread c .After-split-at) in
     let s = c .loop-events .inv .0 in
-    let r = subst (Reads _ _) (c .in-Unread .is) (c .in-Continue-read-line .ensures tt) in
-    (stopped event-words lawful s f event-back event-undo (r .0) (λ e l w. r .1 e (one-allowed (vec-items (c .loop-events .events)) _ (s .lawful) (c .loop-events .inv .1) e l) w),
-     subst (λ ws. Expects ws (c .in-Unread .expected)) (sym (here event-words lawful s f)) (r .2))
+    let r = subst (Reads _ _) (c .in-Unread .is) (c .in-Continue-read-line .ensures tt) in (
+      stopped event-words lawful s f event-back event-undo (r .0) (λ e l w. r .1 e (one-allowed (vec-items (c .loop-events .events)) _ (s .lawful) (c .loop-events .inv .1) e l) w),
+      subst (λ ws. Expects ws (c .in-Unread .expected)) (sym (here event-words lawful s f)) (r .2),
+    )
 
 pub returns-then-is-empty : need.returns-then-is-empty
 returns-then-is-empty c =

@@ -23,22 +23,23 @@ front c = record { n = c .piece-len .result; first = c .piece-len .ensures; fron
 added : (c : Joined-branch-2) → Adds Command command-words all-commandable (line-words (c .split-at .result .0 .now)) (vec-items (c .loop-commands .commands)) (vec-items (c .match-branch-2 .commands))
 added c =
     elim (c .match-branch-2 .came) [
-      in-Nothing w ↦
-        let n = subst (Orders _) (w .in-Nothing .is) (c .in-Continue-read-order .ensures tt) in
-        adds-nothing command-words all-commandable _ (vec-items (c .loop-commands .commands)) _ n (c .loop-commands .inv .lawful) (ap vec-items (w .commands-is))
-    | in-Said·in-Continue-push w ↦
-        let r = subst (Orders _) (w .in-Said .is) (c .in-Continue-read-order .ensures tt) in
-        let d : Command = w .in-Said .command in
-        let cs : List Command = vec-items (c .loop-commands .commands) in
-        adds-one command-words all-commandable _ cs _ d (command-some d) (r .1) (one-commandable cs d (c .loop-commands .inv .lawful) (r .0))
-        (ap vec-items (w .commands-is) ∙ pushed (d ∷ []) refl (w .in-Continue-push .was tt) (w .push .ensures .items))
+      | in-Nothing w ↦
+          let n = subst (Orders _) (w .in-Nothing .is) (c .in-Continue-read-order .ensures tt) in
+          adds-nothing command-words all-commandable _ (vec-items (c .loop-commands .commands)) _ n (c .loop-commands .inv .lawful) (ap vec-items (w .commands-is))
+      | in-Said·in-Continue-push w ↦
+          let r = subst (Orders _) (w .in-Said .is) (c .in-Continue-read-order .ensures tt) in
+          let d : Command = w .in-Said .command in
+          let cs : List Command = vec-items (c .loop-commands .commands) in
+          adds-one command-words all-commandable _ cs _ d (command-some d) (r .1) (one-commandable cs d (c .loop-commands .inv .lawful) (r .0))
+          (ap vec-items (w .commands-is) ∙ pushed (d ∷ []) refl (w .in-Continue-push .was tt) (w .push .ensures .items))
     ]
 
 pub returns-in-Unread : need.returns-in-Unread
 returns-in-Unread c =
-    let r = subst (Orders _) (c .in-Unread .is) (c .in-Continue-read-order .ensures tt) in
-    (stopped command-words all-commandable (c .loop-commands .inv) (front (need.at·returns-in-Unread c .After-split-at)) command-back command-undo (r .0) (λ d l w. r .1 d (one-bounded (vec-items (c .loop-commands .commands)) d l) w),
-     r .2)
+    let r = subst (Orders _) (c .in-Unread .is) (c .in-Continue-read-order .ensures tt) in (
+      stopped command-words all-commandable (c .loop-commands .inv) (front (need.at·returns-in-Unread c .After-split-at)) command-back command-undo (r .0) (λ d l w. r .1 d (one-bounded (vec-items (c .loop-commands .commands)) d l) w),
+      r .2,
+    )
 
 pub returns-then-is-empty : need.returns-then-is-empty
 returns-then-is-empty c =

@@ -15,11 +15,11 @@ use Rattle.text.proofs.words.split.Needs.{Joined-not-is-empty, then-not-is-emp
 grown : (c : Joined-not-is-empty) → vec-items (c .if-not-is-empty .words) ≡ vec-items (c .loop-words .words) ++ kept (c .split-at .result .0 .now)
 grown c =
     elim (c .if-not-is-empty .came) [
-      then-not-is-empty·in-Continue-push w ↦
-        ap vec-items (w .words-is) ∙ pushed (w .word-of .result ∷ []) refl (w .in-Continue-push .was tt) (w .push .ensures .items)
-        ∙ ap (λ (l : List Word). vec-items (c .loop-words .words) ++ l) (ap (λ (x : Word). x ∷ []) (w .word-of .ensures) ∙ sym (kept-one _ (omega (arith, false-eqb _ 0 (w .if-not-is-empty .ensures tt)))))
-    | else-not-is-empty w ↦
-        ap vec-items (w .words-is) ∙ sym (append-nil _) ∙ ap (λ (l : List Word). vec-items (c .loop-words .words) ++ l) (sym (kept-none _ (true-eqb _ 0 (w .if-not-is-empty .ensures tt))))
+      | then-not-is-empty·in-Continue-push w ↦
+          ap vec-items (w .words-is) ∙ pushed (w .word-of .result ∷ []) refl (w .in-Continue-push .was tt) (w .push .ensures .items)
+          ∙ ap (λ (l : List Word). vec-items (c .loop-words .words) ++ l) (ap (λ (x : Word). x ∷ []) (w .word-of .ensures) ∙ sym (kept-one _ (omega (arith, false-eqb _ 0 (w .if-not-is-empty .ensures tt)))))
+      | else-not-is-empty w ↦
+          ap vec-items (w .words-is) ∙ sym (append-nil _) ∙ ap (λ (l : List Word). vec-items (c .loop-words .words) ++ l) (sym (kept-none _ (true-eqb _ 0 (w .if-not-is-empty .ensures tt))))
     ]
 
 pub loop-words-again : need.loop-words-again
