@@ -10,6 +10,7 @@ pub const LENGTH: usize = 12;
 
 // The largest number that a frame can carry, and the modulus of its check.
 const LARGEST: u64 = 0xffff_ffff;
+
 const MODULUS: u64 = 65521;
 
 /// What a frame commands.
@@ -39,7 +40,10 @@ pub fn decode(frame: &[u64]) -> Option<Telecommand>
     if !whole(frame) {
         return None;
     }
-    Some(Telecommand { number: frame[0], command: command_in(frame) })
+    Some(Telecommand {
+        number: frame[0],
+        command: command_in(frame),
+    })
 }
 
 /// The frame of a telecommand; nothing where a number of it is 2^32 or more, or where an
@@ -92,7 +96,10 @@ fn command_in(frame: &[u64]) -> Command
     ensures { λ r. ⌜ r ≡ command-of (now (frame .entry)) ⌝ }
 {
     match frame[1] {
-        0 => Command::Put { place: frame[2], number: frame[3] },
+        0 => Command::Put {
+            place: frame[2],
+            number: frame[3],
+        },
         3 => Command::Sleep,
         4 => Command::Wake,
         kind => Command::Unknown { kind },

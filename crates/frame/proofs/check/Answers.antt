@@ -17,9 +17,10 @@ pub add-sum-in-loop-i : need.add-sum-in-loop-i
 add-sum-in-loop-i c = omega (arith, product (c .loop-i .i) (getD (c .args .frame .now) (c .loop-i .i) 0) (omega arith) (each-small (c .args .frame .now) (c .pre .1) (c .loop-i .i) (omega arith)))
 
 pub loop-i-again : need.loop-i-again
-loop-i-again c =
-    (omega (arith, weighed-more (c .loop-i .i) (c .args .frame .now)),
-     omega (arith, product (c .loop-i .i) (getD (c .args .frame .now) (c .loop-i .i) 0) (omega arith) (each-small (c .args .frame .now) (c .pre .1) (c .loop-i .i) (omega arith))))
+loop-i-again c = (
+  omega (arith, weighed-more (c .loop-i .i) (c .args .frame .now)),
+  omega (arith, product (c .loop-i .i) (getD (c .args .frame .now) (c .loop-i .i) 0) (omega arith) (each-small (c .args .frame .now) (c .pre .1) (c .loop-i .i) (omega arith))),
+)
 
 pub returns : need.returns
 returns c = let e : c .loop-i .sum ≡ weighed 11 (c .args .frame .now) = (let e : c .loop-i .i ≡ 11 = omega arith in rw e at (c .loop-i .inv .0)) in check-is (c .args .frame .now) (c .loop-i .sum) e

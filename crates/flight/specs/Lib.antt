@@ -1,0 +1,4 @@
+pub mod Machine
+pub mod Flight
+pub mod Commanding
+pub mod Effects

@@ -1,0 +1,4 @@
+pub mod State
+pub mod Story
+pub mod Fit
+pub mod Model

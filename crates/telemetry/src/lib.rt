@@ -1,0 +1,57 @@
+//! Reports: what the satellite says of itself after each tick.
+ghost use mathlib.Core.Path.{_≡_};
+ghost use Rattle.satellite.specs.Model.{model};
+ghost use Rattle.telemetry.specs.Reports.{report-of, numbers-of};
+use satellite::Satellite;
+
+/// How many numbers a report has.
+pub const LENGTH: usize = 8;
+
+#[derive(Clone, Copy, PartialEq, Eq, Debug, Drop)]
+pub struct Report {
+    pub time: u64,
+    pub expected: u64,
+    pub safe_mode: bool,
+    pub rejected: u64,
+    pub missed: u64,
+    /// How many activities wait.
+    pub waiting: u64,
+    /// What stands at places 0 and 1.
+    pub first: u64,
+    pub second: u64,
+}
+
+impl Report {
+    /// The report of a satellite.
+    pub fn of(satellite: &Satellite) -> Report
+        ensures { λ r. ⌜ r ≡ report-of (model (now (satellite .entry))) ⌝ }
+    {
+        Report {
+            time: satellite.time,
+            expected: satellite.expected,
+            safe_mode: satellite.safe_mode,
+            rejected: satellite.rejected,
+            missed: satellite.missed,
+            waiting: 0,
+            first: satellite.parameters.at(0),
+            second: satellite.parameters.at(1),
+        }
+    }
+
+    /// Its numbers, in the order in which they go down.
+    pub fn numbers(self) -> [u64; 8]
+        ensures { λ r. ⌜ r ≡ numbers-of self ⌝ }
+    {
+        let safe_mode = if self.safe_mode { 1 } else { 0 };
+        [
+            self.time,
+            self.expected,
+            safe_mode,
+            self.rejected,
+            self.missed,
+            self.waiting,
+            self.first,
+            self.second,
+        ]
+    }
+}
