@@ -1,7 +1,8 @@
 //! Reports: what the satellite says of itself after each tick.
 ghost use mathlib.Core.Path.{_≡_};
 ghost use Rattle.satellite.specs.Model.{model};
-ghost use Rattle.telemetry.specs.Reports.{report-of, numbers-of};
+ghost use Rattle.telemetry.specs.Reports.{report-of, numbers-of, reported};
+ghost use Rattle.std.specs.declared.option.Option.the-variants.{Some};
 use satellite::Satellite;
 
 /// How many numbers a report has.
@@ -40,7 +41,8 @@ impl Report {
 
     /// Its numbers, in the order in which they go down.
     pub fn numbers(self) -> [u64; 8]
-        ensures { λ r. ⌜ r ≡ numbers-of self ⌝ }
+        ensures value { λ r. ⌜ r ≡ numbers-of self ⌝ }
+        ensures back { λ r. ⌜ reported r ≡ Some self ⌝ }
     {
         let safe_mode = if self.safe_mode { 1 } else { 0 };
         [
@@ -53,5 +55,24 @@ impl Report {
             self.first,
             self.second,
         ]
+    }
+
+    /// The report that numbers say: nothing if they are not eight, or if its mark is neither 0 nor 1.
+    pub fn read(numbers: &[u64]) -> Option<Report>
+        ensures { λ r. ⌜ r ≡ reported (now (numbers .entry)) ⌝ }
+    {
+        if numbers.len() != LENGTH || numbers[2] > 1 {
+            return None;
+        }
+        Some(Report {
+            time: numbers[0],
+            expected: numbers[1],
+            safe_mode: numbers[2] == 1,
+            rejected: numbers[3],
+            missed: numbers[4],
+            waiting: numbers[5],
+            first: numbers[6],
+            second: numbers[7],
+        })
     }
 }

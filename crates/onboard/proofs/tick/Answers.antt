@@ -57,5 +57,5 @@ returns c =
     ticked-says m r f t m₁ t₁ (c .words-words .result) s (sym (c .wrong-length .ensures) ∙ c .in-rest .is)
     (c .words-words .ensures ∙ ap (voted-words word-count) (c .new .ensures)) (c .in-rest-fault .ensures tt)
     (c .tick-satellite .ensures ∙ ap (ticked (record { readings = r; frame = f })) (c .satellite .ensures))
-    (c .store .ensures ∙ ap thrice (c .words .ensures)) (c .copy-from-slice .ensures .after ∙ c .numbers .ensures ∙ ap numbers-of (c .of .ensures)) in
+    (c .store .ensures ∙ ap thrice (c .words .ensures)) (c .copy-from-slice .ensures .after ∙ c .numbers .ensures .value ∙ ap numbers-of (c .of .ensures)) in
     record { says = says; flies = goes-on Ticked m r f t m₁ t₁ (λ k. let h = c .typed .readings k in omega arith) says }
