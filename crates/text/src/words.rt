@@ -1,6 +1,8 @@
 //! The words of a line.
 ghost use mathlib.Core.Path.{_≡_};
+ghost use Prim.Native.Nat.{_+_, _*_, _^_, _≤_};
 ghost use Rattle.std.specs.Of.Vec.{vec-items};
+ghost use Rattle.std.specs.Options.{Cases as BySome};
 ghost use Rattle.std.specs.Vec.{made};
 ghost use Rattle.std.specs.shelf.Text.{sameBytes};
 ghost use Rattle.text.specs.Number.{number as reading};
@@ -72,13 +74,22 @@ fn number(word: &[u8]) -> Option<u64>
         if !b.is_ascii_digit() {
             return None;
         }
-        let d = u64::from(*b - b'0');
-        if n > (u64::MAX - d) / 10 {
+        let Some(more) = onward(n, u64::from(*b - b'0')) else {
             return None;
-        }
-        n = n * 10 + d;
+        };
+        n = more;
     }
     Some(n)
+}
+
+// A number with one digit more, if it is below 2^64.
+fn onward(n: u64, digit: u64) -> Option<u64>
+    ensures { λ r. ⌜ BySome r (2 ^ 64 ≤ n * 10 + digit) (λ m. m ≡ n * 10 + digit) ⌝ }
+{
+    if n > (u64::MAX - digit) / 10 {
+        return None;
+    }
+    Some(n * 10 + digit)
 }
 
 // The name that a word spells.
