@@ -17,7 +17,7 @@ use Rattle.std.proofs.shelf.Decimals.{digits-decimal, value-decimal, decimal-so
 use Rattle.std.proofs.shelf.Numerals.{Numerals, tells-allDigits, numerals-by-fold}
 use Rattle.std.proofs.shelf.Tests.{and-parts}
 use Rattle.text.specs.declared.words.Word.{Word}
-use Rattle.text.specs.declared.words.Word.the-variants.{Number, Read, Up, Frame, Hit, Tick, Put, Sleep, Wake, Other}
+use Rattle.text.specs.declared.words.Word.the-variants.{Number, Read, Up, Frame, Hit, Tick, Put, Later, Forget, Sleep, Wake, Rule, Other}
 use Rattle.text.specs.declared.cut.Stop.{Stop}
 use Rattle.text.specs.declared.cut.Stop.the-variants.{Line, Comment, Blank}
 use Rattle.text.specs.Cut.{stops, before, cut, grown}
@@ -93,8 +93,11 @@ Writable Frame = Unit {0}
 Writable Hit = Unit {0}
 Writable Tick = Unit {0}
 Writable Put = Unit {0}
+Writable Later = Unit {0}
+Writable Forget = Unit {0}
 Writable Sleep = Unit {0}
 Writable Wake = Unit {0}
+Writable Rule = Unit {0}
 Writable Other = ⊥
 
 -- digits and letters
@@ -124,8 +127,11 @@ high Frame l = (high-from (written Frame) refl, omega arith)
 high Hit l = (high-from (written Hit) refl, omega arith)
 high Tick l = (high-from (written Tick) refl, omega arith)
 high Put l = (high-from (written Put) refl, omega arith)
+high Later l = (high-from (written Later) refl, omega arith)
+high Forget l = (high-from (written Forget) refl, omega arith)
 high Sleep l = (high-from (written Sleep) refl, omega arith)
 high Wake l = (high-from (written Wake) refl, omega arith)
+high Rule l = (high-from (written Rule) refl, omega arith)
 high Other l = absurd l
 
 passes-not : (s : Stop) (b : ℕ) → 48 ≤ b → stops s b ≡ false
@@ -145,8 +151,11 @@ word-back Frame l = refl
 word-back Hit l = refl
 word-back Tick l = refl
 word-back Put l = refl
+word-back Later l = refl
+word-back Forget l = refl
 word-back Sleep l = refl
 word-back Wake l = refl
+word-back Rule l = refl
 word-back Other l = absurd l
 
 filled-some : (xs : List ℕ) (ps : List (List ℕ)) → 0 < length xs → filled (xs ∷ ps) ≡ xs ∷ filled ps

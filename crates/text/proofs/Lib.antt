@@ -12,3 +12,4 @@ pub mod Bounds
 pub mod Back
 pub mod Rendering
 pub mod Once
+pub mod Ruling

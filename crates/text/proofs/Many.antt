@@ -7,7 +7,7 @@ use lib.ListN.{length, take, getD, set, length-map}
 use Rattle.std.proofs.shelf.Lists.{take-more, take-more-set, take-all, map-push, getD-map}
 use Rattle.std.specs.declared.option.Option.the-variants.{None, Some}
 use Rattle.text.specs.declared.words.Word.{Word}
-use Rattle.text.specs.declared.words.Word.the-variants.{Number, Read, Up, Frame, Hit, Tick, Put, Sleep, Wake, Other}
+use Rattle.text.specs.declared.words.Word.the-variants.{Number, Read, Up, Frame, Hit, Tick, Put, Later, Forget, Sleep, Wake, Rule, Other}
 use Rattle.text.specs.Table.{amount, Numbers}
 
 amount-some : (w : Word) (n : ℕ) → amount w ≡ Some n → w ≡ Number n
@@ -18,8 +18,11 @@ amount-some Frame n e = let z : _≡_ {A = ℕ} 0 1 = cc in absurd (omega arith)
 amount-some Hit n e = let z : _≡_ {A = ℕ} 0 1 = cc in absurd (omega arith)
 amount-some Tick n e = let z : _≡_ {A = ℕ} 0 1 = cc in absurd (omega arith)
 amount-some Put n e = let z : _≡_ {A = ℕ} 0 1 = cc in absurd (omega arith)
+amount-some Later n e = let z : _≡_ {A = ℕ} 0 1 = cc in absurd (omega arith)
+amount-some Forget n e = let z : _≡_ {A = ℕ} 0 1 = cc in absurd (omega arith)
 amount-some Sleep n e = let z : _≡_ {A = ℕ} 0 1 = cc in absurd (omega arith)
 amount-some Wake n e = let z : _≡_ {A = ℕ} 0 1 = cc in absurd (omega arith)
+amount-some Rule n e = let z : _≡_ {A = ℕ} 0 1 = cc in absurd (omega arith)
 amount-some Other n e = let z : _≡_ {A = ℕ} 0 1 = cc in absurd (omega arith)
 
 pub wrong-length : (ws : List Word) (n : ℕ) → (length ws ≡ n → ⊥) → Numbers n ws None

@@ -17,7 +17,7 @@ use Rattle.text.specs.declared.fault.Fault.{Fault}
 use Rattle.text.specs.declared.fault.Fault.the-variants.{Unreadable, Memory}
 use Rattle.text.specs.Law.{command-bounded, bounded, all-below, after, allowed, all-allowed, lawful, all-commandable, kept-words}
 use Rattle.text.specs.Render.{rendered, Only}
-use Rattle.text.specs.Table.{command-words, event-words}
+use Rattle.text.specs.Table.{mark, command-words, event-words}
 use Rattle.text.specs.Text.{spoken, Says, FirstFault, Told, Failed, Ordered, Disordered}
 use Rattle.text.specs.Words.{lines}
 use Rattle.text.proofs.Back.{Writable, says-back}
@@ -53,10 +53,19 @@ all-writable n m (x ∷ xs) l = let t = and-parts (ltb x n) (all-below n xs) l i
 carried : (xs : List ℕ) → all-below 4294967296 xs ≡ true → All Writable (map Number xs)
 carried xs l = all-writable 4294967296 (omega arith) xs l
 
+mark-small : (b : Bool) → mark b < 2 ^ 64
+mark-small true = omega arith
+mark-small false = omega arith
+
 pub command-writable : (c : Command) → command-bounded c ≡ true → All Writable (command-words c)
 command-writable (Command.Put a b) l = (tt, carried (a ∷ b ∷ []) l)
+command-writable (Command.Later a) l = (tt, carried (a .release ∷ a .place ∷ a .number ∷ []) l)
+command-writable Command.Forget l = (tt, tt)
 command-writable Command.Sleep l = (tt, tt)
 command-writable Command.Wake l = (tt, tt)
+command-writable (Command.SetRule k r) l =
+    let t = carried (k ∷ r .watches ∷ r .limit ∷ r .needs ∷ r .place ∷ r .number ∷ []) l in
+    (tt, (t .0, (t .1 .0, (t .1 .1 .0, (mark-small (r .upward), (t .1 .1 .1 .0, (mark-small (r .safes), (t .1 .1 .1 .1 .0, (t .1 .1 .1 .1 .1 .0, tt)))))))))
 command-writable (Command.Unknown k) l = absurd (let z : _≡_ {A = ℕ} 0 1 = cc in omega arith)
 
 event-writable : (e : Event) → bounded e ≡ true → All Writable (event-words e)

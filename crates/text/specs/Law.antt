@@ -9,7 +9,7 @@ use Rattle.text.specs.declared.event.Event.{Event}
 
 -- how many words can be hit
 abbrev pub kept-words : ℕ
-kept-words = 69
+kept-words = 294
 
 abbrev pub all-below : ℕ → List ℕ → Bool
 all-below n [] = true
@@ -18,8 +18,11 @@ all-below n (x ∷ xs) = ltb x n && all-below n xs
 -- what a frame can carry; an unknown command has no name to write
 abbrev pub command-bounded : Command → Bool
 command-bounded (Command.Put a b) = all-below 4294967296 (a ∷ b ∷ [])
+command-bounded (Command.Later a) = all-below 4294967296 (a .release ∷ a .place ∷ a .number ∷ [])
+command-bounded Command.Forget = true
 command-bounded Command.Sleep = true
 command-bounded Command.Wake = true
+command-bounded (Command.SetRule k r) = all-below 4294967296 (k ∷ r .watches ∷ r .limit ∷ r .needs ∷ r .place ∷ r .number ∷ [])
 command-bounded (Command.Unknown k) = false
 
 abbrev pub bounded : Event → Bool

@@ -8,7 +8,7 @@ use Rattle.std.specs.declared.option.Option.{Option}
 use Rattle.std.specs.declared.option.Option.the-variants.{None, Some}
 use Rattle.frame.specs.declared.Command.{Command}
 use Rattle.text.specs.declared.words.Word.{Word}
-use Rattle.text.specs.declared.words.Word.the-variants.{Number, Read, Up, Frame, Hit, Tick, Put, Sleep, Wake, Other}
+use Rattle.text.specs.declared.words.Word.the-variants.{Number, Read, Up, Frame, Hit, Tick, Put, Later, Forget, Sleep, Wake, Rule, Other}
 use Rattle.text.specs.declared.event.Event.{Event}
 use Rattle.text.specs.declared.fault.Expected.{Expected}
 use Rattle.text.specs.declared.fault.Fault.{Fault}
@@ -44,8 +44,11 @@ wanted Frame = Expected.Frame
 wanted Hit = Expected.Hit
 wanted Tick = Expected.Tick
 wanted Put = Expected.Event
+wanted Later = Expected.Event
+wanted Forget = Expected.Event
 wanted Sleep = Expected.Event
 wanted Wake = Expected.Event
+wanted Rule = Expected.Event
 wanted Other = Expected.Event
 
 abbrev pub by-first : List Word → Expected

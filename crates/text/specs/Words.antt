@@ -8,7 +8,7 @@ use Rattle.std.specs.shelf.Text.{sameBytes}
 use Rattle.std.specs.declared.option.Option.{Option}
 use Rattle.std.specs.declared.option.Option.the-variants.{None, Some}
 use Rattle.text.specs.declared.words.Word.{Word}
-use Rattle.text.specs.declared.words.Word.the-variants.{Number, Read, Up, Frame, Hit, Tick, Put, Sleep, Wake, Other}
+use Rattle.text.specs.declared.words.Word.the-variants.{Number, Read, Up, Frame, Hit, Tick, Put, Later, Forget, Sleep, Wake, Rule, Other}
 use Rattle.text.specs.declared.cut.Stop.the-variants.{Line, Comment, Blank}
 use Rattle.text.specs.Cut.{stops, before, cut}
 use Rattle.text.specs.Number.{number}
@@ -21,8 +21,11 @@ named bs =
     (cond (sameBytes bs (codes "hit")) Hit
     (cond (sameBytes bs (codes "tick")) Tick
     (cond (sameBytes bs (codes "put")) Put
+    (cond (sameBytes bs (codes "later")) Later
+    (cond (sameBytes bs (codes "forget")) Forget
     (cond (sameBytes bs (codes "sleep")) Sleep
-    (cond (sameBytes bs (codes "wake")) Wake Other)))))))
+    (cond (sameBytes bs (codes "wake")) Wake
+    (cond (sameBytes bs (codes "rule")) Rule Other))))))))))
 
 abbrev pub numbered : Option ℕ → List ℕ → Word
 numbered (Some n) bs = Number n
@@ -56,8 +59,11 @@ written Frame = codes "frame"
 written Hit = codes "hit"
 written Tick = codes "tick"
 written Put = codes "put"
+written Later = codes "later"
+written Forget = codes "forget"
 written Sleep = codes "sleep"
 written Wake = codes "wake"
+written Rule = codes "rule"
 written Other = codes "?"
 
 -- the words of a line, with a space between

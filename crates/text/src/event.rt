@@ -1,8 +1,10 @@
 //! The events of a flight, and the words that say them.
 ghost use mathlib.Core.Path.{_≡_};
-ghost use Rattle.text.specs.Table.{amount as amounts, Numbers, Commands, Events};
+ghost use Rattle.text.specs.Table.{amount as amounts, Numbers, RuleNumbers, Commands, Events};
 use crate::words::Word;
 use frame::Command;
+use rules::Rule;
+use schedule::Activity;
 
 /// What a line of a flight text says.
 #[derive(Clone, Copy, Drop)]
@@ -35,7 +37,7 @@ pub fn event_of(words: &[Word]) -> Option<Event>
             }),
             None => None,
         },
-        [Word::Frame, rest @ ..] => match twelve(rest) {
+        [Word::Frame, rest @ ..] => match numbers::<12>(rest) {
             Some(numbers) => Some(Event::Frame { numbers }),
             None => None,
         },
@@ -60,20 +62,60 @@ pub fn command_of(words: &[Word]) -> Option<Command>
             place: *a,
             number: *b,
         }),
+        [
+            Word::Later,
+            Word::Number(a),
+            Word::Number(b),
+            Word::Number(c),
+        ] => Some(Command::Later {
+            activity: Activity {
+                release: *a,
+                place: *b,
+                number: *c,
+            },
+        }),
+        [Word::Forget] => Some(Command::Forget),
         [Word::Sleep] => Some(Command::Sleep),
         [Word::Wake] => Some(Command::Wake),
+        [Word::Rule, rest @ ..] => rule_of(rest),
         _ => None,
     }
 }
 
-fn twelve(words: &[Word]) -> Option<[u64; 12]>
-    ensures { λ r. ⌜ Numbers 12 (now (words .entry)) r ⌝ }
+// The rule that eight numbers say, of which the fourth and the sixth are marks.
+fn rule_of(words: &[Word]) -> Option<Command>
+    ensures { λ r. ⌜ RuleNumbers (now (words .entry)) r ⌝ }
 {
-    if words.len() != 12 {
+    let Some(said) = numbers::<8>(words) else {
+        return None;
+    };
+    if said[3] > 1 || said[5] > 1 {
         return None;
     }
-    let mut numbers = [0; 12];
-    for i in 0..12 {
+    let rule = Rule {
+        watches: said[1],
+        limit: said[2],
+        upward: said[3] == 1,
+        needs: said[4],
+        safes: said[5] == 1,
+        place: said[6],
+        number: said[7],
+    };
+    Some(Command::SetRule {
+        index: said[0],
+        rule,
+    })
+}
+
+// So many numbers.
+fn numbers<const N: usize>(words: &[Word]) -> Option<[u64; N]>
+    ensures { λ r. ⌜ Numbers N (now (words .entry)) r ⌝ }
+{
+    if words.len() != N {
+        return None;
+    }
+    let mut numbers = [0; N];
+    for i in 0..N {
         let Some(n) = amount(words[i]) else {
             return None;
         };

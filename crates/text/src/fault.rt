@@ -51,7 +51,7 @@ pub impl fmt::Display for Expected as ExpectedDisplay {
             Expected::Read => write!(f, "`read I V`, I below 16 and V below 65536"),
             Expected::Up => write!(
                 f,
-                "`up N` and `put A B`, `sleep` or `wake`, each number below 4294967296"
+                "`up N` and `put A B`, `later A B C`, `forget`, `sleep`, `wake` or `rule A B C D E F G H`, each number below 4294967296, D and F 0 or 1"
             ),
             Expected::Frame => write!(f, "`frame` and twelve numbers below 18446744073709551616"),
             Expected::Hit => write!(
@@ -61,7 +61,7 @@ pub impl fmt::Display for Expected as ExpectedDisplay {
             Expected::Tick => write!(f, "`tick` alone"),
             Expected::Command => write!(
                 f,
-                "`put A B`, `sleep` or `wake`, each number below 4294967296"
+                "`put A B`, `later A B C`, `forget`, `sleep`, `wake` or `rule A B C D E F G H`, each number below 4294967296, D and F 0 or 1"
             ),
             Expected::TickFirst => write!(f, "`tick` before another frame comes up"),
         }

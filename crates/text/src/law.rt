@@ -1,11 +1,13 @@
 //! Which events a text may say.
 ghost use mathlib.Core.Path.{_≡_};
-ghost use Rattle.text.specs.Law.{bounded as bounds, command-bounded, brings as bringing, after};
+ghost use mathlib.Core.List.{[], _∷_};
+ghost use Rattle.text.specs.Law.{all-below, bounded as bounds, command-bounded, brings as bringing, after};
 use crate::event::Event;
 use frame::Command;
+use rules::Rule;
 
 /// How many words the satellite keeps: a hit strikes one of them.
-pub const WORDS: u64 = 69;
+pub const WORDS: u64 = 294;
 
 const INSTRUMENTS: u64 = 16;
 
@@ -35,9 +37,24 @@ pub fn commandable(command: Command) -> bool
 {
     match command {
         Command::Put { place, number } => place < CARRIED && number < CARRIED,
-        Command::Sleep | Command::Wake => true,
+        Command::Later { activity } => {
+            activity.release < CARRIED && activity.place < CARRIED && activity.number < CARRIED
+        }
+        Command::Forget | Command::Sleep | Command::Wake => true,
+        Command::SetRule { index, rule } => index < CARRIED && ruled(rule),
         Command::Unknown { .. } => false,
     }
+}
+
+// Whether the numbers of a rule lie in their bounds.
+fn ruled(rule: Rule) -> bool
+    ensures { λ r. ⌜ r ≡ all-below 4294967296 (rule .watches ∷ rule .limit ∷ rule .needs ∷ rule .place ∷ rule .number ∷ []) ⌝ }
+{
+    rule.watches < CARRIED
+        && rule.limit < CARRIED
+        && rule.needs < CARRIED
+        && rule.place < CARRIED
+        && rule.number < CARRIED
 }
 
 /// Whether a frame comes up.

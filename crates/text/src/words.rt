@@ -22,8 +22,11 @@ pub enum Word {
     Hit,
     Tick,
     Put,
+    Later,
+    Forget,
     Sleep,
     Wake,
+    Rule,
     Other,
 }
 
@@ -108,10 +111,16 @@ fn named(word: &[u8]) -> Word
         Word::Tick
     } else if spells(word, b"put") {
         Word::Put
+    } else if spells(word, b"later") {
+        Word::Later
+    } else if spells(word, b"forget") {
+        Word::Forget
     } else if spells(word, b"sleep") {
         Word::Sleep
     } else if spells(word, b"wake") {
         Word::Wake
+    } else if spells(word, b"rule") {
+        Word::Rule
     } else {
         Word::Other
     }

@@ -2,16 +2,21 @@
 ghost use mathlib.Core.Path.{_≡_};
 ghost use Rattle.std.specs.declared.option.Option.the-variants.{Some};
 ghost use mathlib.Core.Bool.{true};
+ghost use mathlib.Core.List.{map};
+ghost use lib.ListN.{drop};
+ghost use Rattle.text.specs.declared.words.Word.the-variants.{Number};
 ghost use Rattle.std.specs.Of.String.{string-bytes};
 ghost use Rattle.std.specs.Vec.{made};
 ghost use Rattle.std.specs.Written.{Prints};
 ghost use Rattle.text.specs.Law.{lawful};
-ghost use Rattle.text.specs.Table.{command-words, event-words};
+ghost use Rattle.text.specs.Table.{command-words, event-words, mark as marked};
 ghost use Rattle.text.specs.Text.{Told, Failed};
 ghost use Rattle.text.specs.Words.{spelt};
 ghost use Rattle.text.specs.Render.{listed, rendered, Only};
 use crate::event::Event;
 use frame::Command;
+use rules::Rule;
+use schedule::Activity;
 use std::alloc::AllocError;
 use std::alloc::Global;
 use std::fmt;
@@ -60,11 +65,47 @@ pub impl fmt::Display for Order as OrderDisplay {
     fn fmt<W: fmt::Write>(&self, f: &mut fmt::Formatter<W>) -> fmt::Result {
         match self.0 {
             Command::Put { place, number } => write!(f, "put {place} {number}"),
+            Command::Later { activity } => {
+                let Activity {
+                    release,
+                    place,
+                    number,
+                } = activity;
+                write!(f, "later {release} {place} {number}")
+            }
+            Command::Forget => write!(f, "forget"),
             Command::Sleep => write!(f, "sleep"),
             Command::Wake => write!(f, "wake"),
+            Command::SetRule { index, rule } => {
+                let numbers = rule_numbers(index, rule);
+                write!(f, "rule")?;
+                list(&numbers, f)
+            }
             Command::Unknown { kind } => write!(f, "? {kind}"),
         }
     }
+}
+
+// The eight numbers of a rule, its marks as 1 or 0.
+fn rule_numbers(index: u64, rule: Rule) -> [u64; 8]
+    ensures { λ r. ⌜ map Number r ≡ drop 1 (command-words (Command.SetRule index rule)) ⌝ }
+{
+    [
+        index,
+        rule.watches,
+        rule.limit,
+        mark(rule.upward),
+        rule.needs,
+        mark(rule.safes),
+        rule.place,
+        rule.number,
+    ]
+}
+
+fn mark(b: bool) -> u64
+    ensures { λ r. ⌜ r ≡ marked b ⌝ }
+{
+    if b { 1 } else { 0 }
 }
 
 // Writes each number after a space.

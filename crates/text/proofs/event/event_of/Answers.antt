@@ -17,8 +17,8 @@ returns-in-Hit c = like _ (Number 0) _ (search needs) (search needs, (search nee
 pub returns-in-Some : need.returns-in-Some
 returns-in-Some c = headed-by-2 _ _ (Number 0) _ _ _ (search needs) (search needs) (search needs) refl (c .in-Some .ensures tt)
 
-pub returns-in-Some-twelve : need.returns-in-Some-twelve
-returns-in-Some-twelve c = headed-by _ _ (Number 0) _ _ (search needs) (search needs) refl (c .in-Some-twelve .ensures tt .1)
+pub returns-in-Some-numbers : need.returns-in-Some-numbers
+returns-in-Some-numbers c = headed-by _ _ (Number 0) _ _ (search needs) (search needs) refl (c .in-Some-numbers .ensures tt .1)
 
-pub returns-in-None-twelve : need.returns-in-None-twelve
-returns-in-None-twelve c = no-frame (c .args .words .now) _ (headed (c .args .words .now) (Number 0) Frame _ (search needs) (search needs) refl) (c .in-None-twelve .ensures tt)
+pub returns-in-None-numbers : need.returns-in-None-numbers
+returns-in-None-numbers c = no-frame (c .args .words .now) _ (headed (c .args .words .now) (Number 0) Frame _ (search needs) (search needs) refl) (c .in-None-numbers .ensures tt)
