@@ -72,7 +72,7 @@ unfolding voted-words
 votes-mend n kept found words holds upset = sym (fill-by-all (voted n found) words n 0 (holds .0) (λ k lt. sym (voted-back n kept found words holds upset k lt)))
 
 -- places of different copies or words differ
-apart : (n c k d j : ℕ) → k < n → j < n → c < 3 → d < 3 → (c ≡ d → k ≡ j → ⊥) → c * n + k ≢ d * n + j
+pub apart : (n c k d j : ℕ) → k < n → j < n → c < 3 → d < 3 → (c ≡ d → k ≡ j → ⊥) → c * n + k ≢ d * n + j
 apart n zero k zero j a b x y f e = f refl (omega arith)
 apart n zero k (suc zero) j a b x y f e = omega arith
 apart n zero k (suc (suc zero)) j a b x y f e = omega arith
