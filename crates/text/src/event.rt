@@ -107,8 +107,8 @@ fn rule_of(words: &[Word]) -> Option<Command>
     })
 }
 
-// So many numbers.
-fn numbers<const N: usize>(words: &[Word]) -> Option<[u64; N]>
+/// So many numbers, and nothing else.
+pub fn numbers<const N: usize>(words: &[Word]) -> Option<[u64; N]>
     ensures { λ r. ⌜ Numbers N (now (words .entry)) r ⌝ }
 {
     if words.len() != N {

@@ -15,6 +15,7 @@ pub use fault::Fault;
 pub use flight::parse;
 pub use law::WORDS;
 pub use orders::parse_commands;
+pub use orders::parse_report;
 pub use orders::render_commands;
 pub use write::EventDisplay;
 pub use write::Order;

@@ -1,4 +1,4 @@
-//! Reads and writes a text of commands: one to a line, in the order of their numbers.
+//! Reads and writes a text of commands, one to a line, in the order of their numbers; and reads a report.
 ghost use mathlib.Core.Path.{_≡_};
 ghost use mathlib.Core.Bool.{true};
 ghost use Rattle.std.specs.Of.String.{string-bytes};
@@ -7,12 +7,13 @@ ghost use Rattle.std.specs.Results.{Cases};
 ghost use Rattle.std.specs.Vec.{made};
 ghost use Rattle.text.specs.Law.{all-commandable};
 ghost use Rattle.text.specs.Render.{rendered, Only};
-ghost use Rattle.text.specs.Table.{command-words};
+ghost use Rattle.text.specs.Table.{command-words, Numbers};
 ghost use Rattle.text.specs.Text.{Orders, Ordered, Disordered};
 ghost use Rattle.text.specs.Words.{line-words};
 use crate::cut::Stop;
 use crate::cut::piece_len;
 use crate::event::command_of;
+use crate::event::numbers;
 use crate::fault::Expected;
 use crate::fault::Fault;
 use crate::fault::FaultFromAlloc;
@@ -81,4 +82,12 @@ pub fn render_commands(heap: Global, commands: &[Command]) -> Result<String, All
         };
     }
     Ok(out)
+}
+
+/// The eight numbers of a line that is a report; nothing if it is another line.
+pub fn parse_report(heap: Global, line: &[u8]) -> Result<Option<[u64; 8]>, AllocError>
+    ensures { λ r. ⌜ made r (λ o. Numbers 8 (line-words (now (line .entry))) o) ⌝ }
+{
+    let words = words_of(heap, line)?;
+    Ok(numbers::<8>(words.as_slice()))
 }
