@@ -5,8 +5,11 @@ use std::env;
 use std::error::AnyError;
 use std::fs;
 use std::io::Read;
+use std::str::from_utf8;
+use text::Event;
 use text::ExpectedDisplay;
 use text::Fault;
+use text::line_at;
 use text::parse;
 
 fn main(rt: LibcRuntime) -> Result<(), AnyError> {
@@ -60,23 +63,31 @@ fn standard_input(rt: &LibcRuntime) -> Result<Vec<u8>, AnyError> {
 // The whole text is parsed before anything flies.
 fn fly_text(rt: &LibcRuntime, text: &[u8]) -> Result<(), AnyError> {
     match parse(rt.alloc(), text) {
-        Ok(events) => {
-            for output in fly(rt.alloc(), events.as_slice())?.as_slice() {
-                print(rt, output)?;
-            }
-            Ok(())
-        }
+        Ok(events) => fly_events(rt, events.as_slice()),
         Err(Fault::Unreadable { line, expected }) => {
             eprintln!(rt, "refused 3 {line}")?;
+            let found = from_utf8(line_at(text, line)).unwrap_or("what is no text");
             let line = line.saturating_add(1);
-            eprintln!(rt, "fly: line {line}: expected {expected}")?;
+            eprintln!(rt, "fly: line {line}: expected {expected}; found {found}")?;
             Err("the text cannot be read".into())
         }
-        Err(Fault::Memory) => {
-            eprintln!(rt, "fly: no memory left")?;
-            Err("no memory left".into())
-        }
+        Err(Fault::Memory) => no_memory(rt),
     }
+}
+
+fn fly_events(rt: &LibcRuntime, events: &[Event]) -> Result<(), AnyError> {
+    let Ok(outputs) = fly(rt.alloc(), events) else {
+        return no_memory(rt);
+    };
+    for output in outputs.as_slice() {
+        print(rt, output)?;
+    }
+    Ok(())
+}
+
+fn no_memory(rt: &LibcRuntime) -> Result<(), AnyError> {
+    eprintln!(rt, "fly: no memory left")?;
+    Err("no memory left".into())
 }
 
 fn print(rt: &LibcRuntime, output: &Output) -> Result<(), AnyError> {

@@ -3,11 +3,13 @@ use station::Station;
 use std::env;
 use std::error::AnyError;
 use std::fs;
+use std::str::from_utf8;
 use telemetry::Report;
 use text::Event;
 use text::EventDisplay;
 use text::ExpectedDisplay;
 use text::Fault;
+use text::line_at;
 use text::parse_commands;
 use text::parse_report;
 
@@ -59,10 +61,11 @@ fn station_of(rt: &LibcRuntime, text: &[u8]) -> Result<Station, AnyError> {
         Ok(commands) => Ok(Station::new(commands)),
         Err(Fault::Unreadable { line, expected }) => {
             eprintln!(rt, "refused 3 {line}")?;
+            let found = from_utf8(line_at(text, line)).unwrap_or("what is no text");
             let line = line.saturating_add(1);
             eprintln!(
                 rt,
-                "ground: line {line} of the commands: expected {expected}"
+                "ground: line {line} of the commands: expected {expected}; found {found}"
             )?;
             Err("the commands cannot be read".into())
         }

@@ -2,12 +2,12 @@
 use mathlib.Core.Path.{_≡_, refl, sym, ap, _∙_}
 use mathlib.Core.Bool.{Bool}
 use mathlib.Core.List.{List, [], _∷_, _++_, map, append-assoc, append-nil}
-use Prim.Native.Nat.{ℕ, _-_, _<_}
+use Prim.Native.Nat.{ℕ, _+_, _-_, _<_}
 use native.Mathlib.Omega.{arith}
-use lib.ListN.{length, take, drop}
+use lib.ListN.{length, take, drop, getD}
 use Rattle.text.specs.declared.words.Word.{Word}
-use Rattle.std.proofs.shelf.Lists.{take-all}
-use Rattle.text.specs.declared.cut.Stop.the-variants.{Blank}
+use Rattle.std.proofs.shelf.Lists.{take-all, drop-drop, getD-drop, getD-past, length-drop}
+use Rattle.text.specs.declared.cut.Stop.the-variants.{Blank, Line}
 use Rattle.text.specs.Cut.{stops, cut, further, First}
 use Rattle.text.specs.Words.{worded, filled, spaced}
 
@@ -49,3 +49,20 @@ spaced-more bs piece more n had all now h p m l e k =
 pub spaced-last : (bs piece more : List ℕ) (n : ℕ) (had all now : List Word) → First (stops Blank) bs n → piece ≡ take n bs → more ≡ drop n bs → length more ≡ 0 → had ++ spaced bs ≡ all → now ≡ had ++ kept piece → now ≡ all
 spaced-last bs piece more n had all now h p m l e k =
     k ∙ ap (λ ws. had ++ ws) (sym (append-nil (kept piece)) ∙ ap (λ (ps : List (List ℕ)). kept piece ++ map worded (filled ps)) (sym (further-none (stops Blank) more l)) ∙ sym (spaced-step bs piece more n h p m)) ∙ e
+
+-- one line further
+pub line-on : (bs piece more all : List ℕ) (n k : ℕ) → First (stops Line) bs n → more ≡ drop n bs → 0 < length more → cut (stops Line) bs ≡ drop k (cut (stops Line) all)
+    → cut (stops Line) (take (length more - 1) (drop 1 more)) ≡ drop (k + 1) (cut (stops Line) all)
+line-on bs piece more all n k h m l e =
+    sym (further-some (stops Line) more l) ∙ ap (further (stops Line)) m ∙ ap (drop 1) (sym (h .pieces) ∙ e) ∙ drop-drop 1 k (cut (stops Line) all)
+
+-- the line itself, and none past the last
+pub line-here : (bs piece all : List ℕ) (n k : ℕ) → First (stops Line) bs n → piece ≡ take n bs → cut (stops Line) bs ≡ drop k (cut (stops Line) all) → piece ≡ getD (cut (stops Line) all) k []
+line-here bs piece all n k h p e =
+    p ∙ ap (λ (ps : List (List ℕ)). getD ps 0 []) (sym (h .pieces) ∙ e) ∙ getD-drop k (cut (stops Line) all) 0 [] ∙ ap (λ j. getD (cut (stops Line) all) j []) (omega arith)
+
+pub line-none : (bs more all : List ℕ) (n k j : ℕ) → First (stops Line) bs n → more ≡ drop n bs → length more ≡ 0 → k < j → cut (stops Line) bs ≡ drop k (cut (stops Line) all) → [] ≡ getD (cut (stops Line) all) j []
+line-none bs more all n k j h m l lt e =
+    let one : drop k (cut (stops Line) all) ≡ take n bs ∷ [] = sym e ∙ h .pieces ∙ ap (λ (ps : List (List ℕ)). take n bs ∷ ps) (ap (further (stops Line)) (sym m) ∙ further-none (stops Line) more l) in
+    let long = ap length one in
+    sym (getD-past (cut (stops Line) all) j [] (let d = length-drop k (cut (stops Line) all) in omega arith))

@@ -1,6 +1,9 @@
 //! Where a line, a comment or a word ends.
 ghost use mathlib.Core.Path.{_≡_};
-ghost use Rattle.text.specs.Cut.{First, stops};
+ghost use mathlib.Core.List.{[]};
+ghost use lib.ListN.{getD};
+ghost use Rattle.text.specs.Cut.{First, stops, cut};
+ghost use Rattle.text.specs.declared.cut.Stop.the-variants.{Line};
 
 /// What ends at the first byte that stops it.
 #[derive(Clone, Copy, Drop)]
@@ -33,4 +36,20 @@ pub fn piece_len(text: &[u8], stop: Stop) -> usize
         n += 1;
     }
     n
+}
+
+/// A line of a text, counted from 0; nothing past the last.
+pub fn line_at(text: &[u8], line: usize) -> &[u8]
+    ensures { λ r. ⌜ now r ≡ getD (cut (stops Line) (now (text .entry))) line [] ⌝ }
+{
+    let mut rest = text;
+    for _ in 0..line {
+        let (_, more) = rest.split_at(piece_len(rest, Stop::Line));
+        if more.is_empty() {
+            return &[];
+        }
+        rest = &more[1..];
+    }
+    let (one, _) = rest.split_at(piece_len(rest, Stop::Line));
+    one
 }

@@ -8,6 +8,7 @@ mod orders;
 mod words;
 mod write;
 
+pub use cut::line_at;
 pub use event::Event;
 pub use fault::Expected;
 pub use fault::ExpectedDisplay;
