@@ -58,11 +58,19 @@ pub fn store<const N: usize>(memory: &mut [u64], words: [u64; N])
     ensures { λ _. ⌜ now (memory .exit) ≡ thrice (words .entry) ⌝ }
 {
     for k in 0..N {
-        let word = words[k];
-        memory[k] = word;
-        memory[N + k] = word;
-        memory[2 * N + k] = word;
+        write(memory, N, k, words[k]);
     }
+}
+
+// Writes a word to its three places among n words.
+fn write(memory: &mut [u64], n: usize, k: usize, word: u64)
+    requires { ⌜ length (now memory) ≡ 3 * n ⌝ }
+    requires { ⌜ k < n ⌝ }
+    ensures { λ _. ⌜ now (memory .exit) ≡ set (set (set (now (memory .entry)) k word) (n + k) word) (2 * n + k) word ⌝ }
+{
+    memory[k] = word;
+    memory[n + k] = word;
+    memory[2 * n + k] = word;
 }
 
 /// An upset in one copy of each word at most is voted away.
