@@ -3,7 +3,7 @@ ghost use mathlib.Core.Path.{_≡_};
 ghost use mathlib.Core.Bool.{true};
 ghost use lib.ListN.{length, getD};
 ghost use Rattle.std.specs.declared.option.Option.the-variants.{Some};
-ghost use Rattle.frame.specs.Frame.{all-small, check-of, is-whole, command-of, rule-of, decoded, bit, body, encodable, encoded, encoding, is-kind};
+ghost use Rattle.frame.specs.Frame.{all-small, check-of, is-whole, command-of, rule-of, decoded, body, encodable, encoded, encoding, is-kind};
 use rules::Rule;
 use rules::RuleDebug;
 use rules::RuleEq;
@@ -178,9 +178,9 @@ fn unchecked(telecommand: Telecommand) -> [u64; 12]
             index,
             rule.watches,
             rule.limit,
-            mark(rule.upward),
+            u64::from(rule.upward),
             rule.needs,
-            mark(rule.safes),
+            u64::from(rule.safes),
             rule.place,
             rule.number,
             0,
@@ -188,12 +188,6 @@ fn unchecked(telecommand: Telecommand) -> [u64; 12]
         ],
         Command::Unknown { kind } => [n, kind, 0, 0, 0, 0, 0, 0, 0, 0, 0, 0],
     }
-}
-
-fn mark(b: bool) -> u64
-    ensures { λ r. ⌜ r ≡ bit b ⌝ }
-{
-    if b { 1 } else { 0 }
 }
 
 // Whether its kind in a frame would be read as this command.

@@ -5,7 +5,7 @@ ghost use lib.ListN.{length, take, drop};
 ghost use Rattle.std.specs.Joined.{joined};
 ghost use Rattle.schedule.specs.Waiting.{waiting};
 ghost use Rattle.satellite.specs.Model.{model};
-ghost use Rattle.layout.specs.Map.{bit, activity-words, rule-words, words-of};
+ghost use Rattle.layout.specs.Map.{activity-words, rule-words, words-of};
 use crate::map::ACTIVITIES;
 use crate::map::ACTIVITY;
 use crate::map::COUNTS;
@@ -28,7 +28,7 @@ pub fn words(satellite: Satellite) -> [u64; 294]
     let head = [
         satellite.time,
         satellite.expected,
-        mark(satellite.safe_mode),
+        u64::from(satellite.safe_mode),
         satellite.rejected,
         satellite.missed,
     ];
@@ -76,18 +76,12 @@ fn rule_words(rule: Rule) -> [u64; 7]
     [
         rule.watches,
         rule.limit,
-        mark(rule.upward),
+        u64::from(rule.upward),
         rule.needs,
-        mark(rule.safes),
+        u64::from(rule.safes),
         rule.place,
         rule.number,
     ]
-}
-
-fn mark(b: bool) -> u64
-    ensures { λ r. ⌜ r ≡ bit b ⌝ }
-{
-    if b { 1 } else { 0 }
 }
 
 // Writes a part of the words, from a place on.

@@ -44,11 +44,10 @@ impl Report {
         ensures value { λ r. ⌜ r ≡ numbers-of self ⌝ }
         ensures back { λ r. ⌜ reported r ≡ Some self ⌝ }
     {
-        let safe_mode = if self.safe_mode { 1 } else { 0 };
         [
             self.time,
             self.expected,
-            safe_mode,
+            u64::from(self.safe_mode),
             self.rejected,
             self.missed,
             self.waiting,

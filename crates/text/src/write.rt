@@ -9,7 +9,7 @@ ghost use Rattle.std.specs.Of.String.{string-bytes};
 ghost use Rattle.std.specs.Vec.{made};
 ghost use Rattle.std.specs.Written.{Prints};
 ghost use Rattle.text.specs.Law.{lawful};
-ghost use Rattle.text.specs.Table.{command-words, event-words, mark as marked};
+ghost use Rattle.text.specs.Table.{command-words, event-words};
 ghost use Rattle.text.specs.Text.{Told, Failed};
 ghost use Rattle.text.specs.Words.{spelt};
 ghost use Rattle.text.specs.Render.{listed, rendered, Only};
@@ -94,18 +94,12 @@ fn rule_numbers(index: u64, rule: Rule) -> [u64; 8]
         index,
         rule.watches,
         rule.limit,
-        mark(rule.upward),
+        u64::from(rule.upward),
         rule.needs,
-        mark(rule.safes),
+        u64::from(rule.safes),
         rule.place,
         rule.number,
     ]
-}
-
-fn mark(b: bool) -> u64
-    ensures { λ r. ⌜ r ≡ marked b ⌝ }
-{
-    if b { 1 } else { 0 }
 }
 
 // Writes each number after a space.
