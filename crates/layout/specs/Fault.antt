@@ -42,13 +42,28 @@ Lowest ws (Some k) = (k < word-count) × (at-fault ws k ≡ true) × ((j : ℕ) 
 
 -- the same in the words of the map: no word is past 2^62, at most 32 activities wait, each for a time after now and a place that may be put,
 -- and each rule watches a parameter and is off, puts to safe mode, or puts where it may
+abbrev pub Small : List ℕ → Type 0
+Small ws = (k : ℕ) → k < word-count → getD ws k 0 ≤ most
+
+abbrev pub Later : List ℕ → ℕ → Type 0
+Later ws i = getD ws 0 0 < getD ws (70 + 3 * i) 0
+
+abbrev pub Placed : List ℕ → ℕ → Type 0
+Placed ws i = may-put (getD ws (71 + 3 * i) 0) ≡ true
+
+abbrev pub Watches : List ℕ → ℕ → Type 0
+Watches ws i = getD ws (166 + 7 * i) 0 < 64
+
+abbrev pub Puts : List ℕ → ℕ → Type 0
+Puts ws i = (getD ws (169 + 7 * i) 0 ≡ 0) ⊎ ((eqb (getD ws (170 + 7 * i) 0) 1 ≡ true) ⊎ (may-put (getD ws (171 + 7 * i) 0) ≡ true))
+
 pub record Sane (ws : List ℕ) : Type 0 where
-  pub small : (k : ℕ) → k < word-count → getD ws k 0 ≤ most
+  pub small : Small ws
   pub few : getD ws 69 0 ≤ 32
-  pub later : (i : ℕ) → i < getD ws 69 0 → getD ws 0 0 < getD ws (70 + 3 * i) 0
-  pub placed : (i : ℕ) → i < getD ws 69 0 → may-put (getD ws (71 + 3 * i) 0) ≡ true
-  pub watches : (i : ℕ) → i < 16 → getD ws (166 + 7 * i) 0 < 64
-  pub puts : (i : ℕ) → i < 16 → (getD ws (169 + 7 * i) 0 ≡ 0) ⊎ ((eqb (getD ws (170 + 7 * i) 0) 1 ≡ true) ⊎ (may-put (getD ws (171 + 7 * i) 0) ≡ true))
+  pub later : (i : ℕ) → i < getD ws 69 0 → Later ws i
+  pub placed : (i : ℕ) → i < getD ws 69 0 → Placed ws i
+  pub watches : (i : ℕ) → i < 16 → Watches ws i
+  pub puts : (i : ℕ) → i < 16 → Puts ws i
 
 pub record Faults-right : Type 0 where
   pub sound : (ws : List ℕ) → Faultless ws → Sane ws

@@ -40,15 +40,14 @@ impl<'a, const N: usize> Copies<'a, N> {
         )
     }
 
-    /// All words.
-    pub fn words(&self) -> [u64; N]
-        ensures { λ r. ⌜ r ≡ voted-words N (now (now (self .entry) .numbers)) ⌝ }
+    /// Writes all words to an array of the caller's.
+    pub fn read(&self, words: &mut [u64])
+        requires { ⌜ length (now words) ≡ N ⌝ }
+        ensures { λ _. ⌜ now (words .exit) ≡ voted-words N (now (now (self .entry) .numbers)) ⌝ }
     {
-        let mut words = [0; N];
         for k in 0..N {
             words[k] = self.word(k);
         }
-        words
     }
 }
 

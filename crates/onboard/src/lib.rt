@@ -78,7 +78,8 @@ pub fn tick(memory: &mut [u64], readings: &[u16], frame: &[u64], report: &mut [u
     if let Some(lent) = wrong_length(memory.len(), readings.len(), frame.len(), report.len()) {
         return Done::Refused(Refusal::Length(lent));
     }
-    let words = Copies::<WORDS>::new(memory).words();
+    let mut words = [0; WORDS];
+    Copies::<WORDS>::new(memory).read(&mut words);
     if let Some(word) = fault(&words) {
         return Done::Refused(Refusal::Unfit { word });
     }

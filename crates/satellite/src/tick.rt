@@ -40,11 +40,18 @@ impl Satellite {
         requires { ⌜ Fit (model self) ⌝ }
         ensures { λ r. ⌜ model r ≡ ticked (record { readings = now (readings .entry); frame = now (frame .entry) }) (model self) ⌝ }
     {
-        let satellite = self.begin(readings).watch().release();
+        // To hand the satellite round copies it, so the last two steps are looked at first.
+        let mut satellite = self.begin(readings).watch();
+        if satellite.schedule.is_due(satellite.time) {
+            satellite = satellite.release();
+        }
         let Some(telecommand) = decode(frame) else {
             return satellite;
         };
-        satellite.obey(telecommand)
+        if telecommand.number == satellite.expected {
+            satellite = satellite.obey(telecommand);
+        }
+        satellite
     }
 
     /// Time goes on by one, and the first sixteen parameters are what the instruments read.

@@ -10,7 +10,7 @@ use lib.ListN.{length, getD, set, length-append, length-set}
 use lib.Seq.{getD-set-other}
 use Rattle.std.proofs.shelf.Tests.{eq-eqb, ne-eqb, cond-true, cond-false, true≢false}
 use Rattle.schedule.specs.declared.activity.Activity.{Activity}
-use Rattle.schedule.specs.Waiting.{no-activity, first, due, still-waiting, put-all, Placed}
+use Rattle.schedule.specs.Waiting.{no-activity, first, due, still-waiting, put-all, None-due, Some-due, Placed}
 use Rattle.schedule.proofs.First.{length-first, first-more, first-push, getD-first}
 
 swap : (b c : Bool) (x a : Activity) (l : List Activity) → cond b (x ∷ cond c (l ++ (a ∷ [])) l) (cond c (l ++ (a ∷ [])) l) ≡ cond c (cond b (x ∷ l) l ++ (a ∷ [])) (cond b (x ∷ l) l)
@@ -63,6 +63,17 @@ still-on t k given e = ap (still-waiting t) (first-more k given) ∙ still-push 
 
 still-off : (t k : ℕ) (given : List Activity) → (getD given k no-activity .release ≡ t → ⊥) → still-waiting t (first (k + 1) given) ≡ still-waiting t (first k given) ++ (getD given k no-activity ∷ [])
 still-off t k given f = ap (still-waiting t) (first-more k given) ∙ still-push t (first k given) (getD given k no-activity) ∙ cond-false (eqb (getD given k no-activity .release) t) _ _ (ne-eqb (getD given k no-activity .release) t f)
+
+-- one more that is not due
+pub none-more : (t k : ℕ) (given : List Activity) → None-due t (first k given) → (getD given k no-activity .release ≡ t → ⊥) → None-due t (first (k + 1) given)
+none-more t k given h f = (
+  due-off t k given f ∙ h .0,
+  still-off t k given f ∙ ap (λ (l : List Activity). l ++ (getD given k no-activity ∷ [])) (h .1) ∙ sym (first-more k given),
+)
+
+-- one that is due
+pub some-at : (t n k : ℕ) (given : List Activity) → k < n → getD given k no-activity .release ≡ t → Some-due t (first n given)
+some-at t n k given lt e = (k, (omega (arith, length-first n given), ap (λ (a : Activity). a .release) (getD-first n k given lt) ∙ e))
 
 pub waits-on : (time : ℕ) (safe : Bool) (given : List Activity) (before : List ℕ) (k stays missed : ℕ) (activities : List Activity) (values : List ℕ) → k < 32
     → Sofar time safe given before k stays missed activities values → (getD activities k no-activity .release ≡ time → ⊥)

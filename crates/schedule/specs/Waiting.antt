@@ -1,4 +1,5 @@
 -- Activities that wait for their time, in the order in which they came.
+use mathlib.Core.Path.{_≡_}
 use mathlib.Core.Bool.{Bool, cond}
 use mathlib.Core.List.{List, [], _∷_, _++_}
 use Prim.Native.Nat.{ℕ, zero, suc, _<_}
@@ -28,6 +29,13 @@ due now (a ∷ xs) = cond (eqb (a .release) now) (a ∷ due now xs) (due now xs)
 abbrev pub still-waiting : ℕ → List Activity → List Activity
 still-waiting now [] = []
 still-waiting now (a ∷ xs) = cond (eqb (a .release) now) (still-waiting now xs) (a ∷ still-waiting now xs)
+
+-- it is the time of none of them, or of one of them
+abbrev pub None-due : ℕ → List Activity → Type 0
+None-due now xs = (due now xs ≡ []) × (still-waiting now xs ≡ xs)
+
+abbrev pub Some-due : ℕ → List Activity → Type 0
+Some-due now xs = (k : ℕ) × ((k < length xs) × (getD xs k no-activity .release ≡ now))
 
 -- each puts its number at its place, one after the other
 abbrev pub put-all : List Activity → List ℕ → List ℕ

@@ -1,10 +1,10 @@
 ghost use mathlib.Core.Path.{_≡_};
-ghost use mathlib.Core.Bool.{cond};
+ghost use mathlib.Core.Bool.{true, false, cond};
 ghost use mathlib.Core.List.{[], _∷_, _++_};
 ghost use Prim.Native.Nat.{_<_, _≤_};
 ghost use lib.Dec.{leb};
 ghost use lib.ListN.{length};
-ghost use Rattle.schedule.specs.Waiting.{waiting, due, still-waiting, put-all, Placed};
+ghost use Rattle.schedule.specs.Waiting.{waiting, due, still-waiting, put-all, None-due, Some-due, Placed};
 use crate::activity::Activity;
 use crate::waiting::Schedule;
 use parameters::Parameters;
@@ -51,6 +51,19 @@ impl Schedule {
         ensures { λ r. ⌜ r ≡ leb 32 (length (waiting (now (self .entry)))) ⌝ }
     {
         self.len() >= ROOM
+    }
+
+    /// Whether it is the time of an activity.
+    pub fn is_due(&self, time: u64) -> bool
+        ensures none { λ r. ⌜ (r ≡ false → None-due time (waiting (now (self .entry)))) ⌝ }
+        ensures some { λ r. ⌜ (r ≡ true → Some-due time (waiting (now (self .entry)))) ⌝ }
+    {
+        for k in 0..self.count {
+            if self.activities[k].release == time {
+                return true;
+            }
+        }
+        false
     }
 
     /// One more activity waits, behind the others.

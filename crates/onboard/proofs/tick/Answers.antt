@@ -20,7 +20,7 @@ use Rattle.onboard.proofs.Entering.{fit-of, goes-on, ticked-says}
 use Rattle.onboard.proofs.tick.Needs as need
 
 pub tick-satellite-requires : need.tick-satellite-requires
-tick-satellite-requires c κs = (search needs, subst Fit (sym (c .satellite .ensures)) (fit-of (c .words-words .result) (c .in-rest-fault .ensures tt)))
+tick-satellite-requires c κs = (search needs, subst Fit (sym (c .satellite .ensures)) (fit-of (c .read .last .words) (c .in-rest-fault .ensures tt)))
 
 pub returns-in-Some : need.returns-in-Some
 returns-in-Some c =
@@ -39,7 +39,7 @@ returns-in-Some-fault c =
     let f = c .args .frame .now in
     let t = c .args .report .now in
     let d = Refused (Unfit (c .in-Some-fault .word)) in
-    let e : c .words-words .result ≡ voted-words word-count m = c .words-words .ensures ∙ ap (voted-words word-count) (c .new .ensures) in
+    let e : c .read .last .words ≡ voted-words word-count m = c .read .ensures ∙ ap (voted-words word-count) (c .new .ensures) in
     let says : Says d m r f t m t =
     (sym (c .wrong-length .ensures) ∙ c .in-rest .is, subst (λ (ws : List ℕ). Lowest ws (Some (c .in-Some-fault .word))) e (c .in-Some-fault .ensures tt), refl, refl) in
     record { says = says; flies = goes-on d m r f t m t (λ k. let h = c .typed .readings k in omega arith) says }
@@ -54,8 +54,8 @@ returns c =
     let t₁ = c .copy-from-slice .last .self in
     let s = model (c .tick-satellite .result) in
     let says : Says Ticked m r f t m₁ t₁ =
-    ticked-says m r f t m₁ t₁ (c .words-words .result) s (sym (c .wrong-length .ensures) ∙ c .in-rest .is)
-    (c .words-words .ensures ∙ ap (voted-words word-count) (c .new .ensures)) (c .in-rest-fault .ensures tt)
+    ticked-says m r f t m₁ t₁ (c .read .last .words) s (sym (c .wrong-length .ensures) ∙ c .in-rest .is)
+    (c .read .ensures ∙ ap (voted-words word-count) (c .new .ensures)) (c .in-rest-fault .ensures tt)
     (c .tick-satellite .ensures ∙ ap (ticked (record { readings = r; frame = f })) (c .satellite .ensures))
     (c .store .ensures ∙ ap thrice (c .words .ensures)) (c .copy-from-slice .ensures .after ∙ c .numbers .ensures .value ∙ ap numbers-of (c .of .ensures)) in
     record { says = says; flies = goes-on Ticked m r f t m₁ t₁ (λ k. let h = c .typed .readings k in omega arith) says }
