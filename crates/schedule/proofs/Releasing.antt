@@ -8,9 +8,10 @@ use native.Mathlib.Omega.{arith}
 use lib.Dec.{eqb}
 use lib.ListN.{length, getD, set, length-append, length-set}
 use lib.Seq.{getD-set-other}
-use Rattle.std.proofs.shelf.Tests.{eq-eqb, ne-eqb, cond-true, cond-false, true≢false}
+use Rattle.std.proofs.shelf.Tests.{eq-eqb, ne-eqb, cond-true, cond-false, true≢false, eqb-true, eqb-false}
 use Rattle.schedule.specs.declared.activity.Activity.{Activity}
-use Rattle.schedule.specs.Waiting.{no-activity, first, due, still-waiting, put-all, None-due, Some-due, Placed}
+use Rattle.schedule.specs.declared.activity.Fate.the-variants.{Waits, Missed, Done}
+use Rattle.schedule.specs.Waiting.{no-activity, first, due, still-waiting, put-all, None-due, Some-due, Placed, fate-of}
 use Rattle.schedule.proofs.First.{length-first, first-more, first-push, getD-first}
 
 swap : (b c : Bool) (x a : Activity) (l : List Activity) → cond b (x ∷ cond c (l ++ (a ∷ [])) l) (cond c (l ++ (a ∷ [])) l) ≡ cond c (cond b (x ∷ l) l ++ (a ∷ [])) (cond b (x ∷ l) l)
@@ -150,3 +151,28 @@ pub put-on : (time : ℕ) (safe : Bool) (given : List Activity) (before : List �
     → Sofar time safe given before (k + 1) stays missed activities (set values (getD activities k no-activity .place) (getD activities k no-activity .number))
 put-on time true given before k stays missed activities values e = absurd (true≢false e)
 put-on time false given before k stays missed activities values e = putting time given before k stays missed activities values
+
+-- what a fate tells of the activity
+waits-only : (b s : Bool) → Waits ≡ cond b (cond s Missed Done) Waits → b ≡ false
+waits-only true true e = let z : _≡_ {A = ℕ} 0 1 = cc in absurd (omega arith)
+waits-only true false e = let z : _≡_ {A = ℕ} 0 1 = cc in absurd (omega arith)
+waits-only false s e = refl
+
+missed-only : (b s : Bool) → Missed ≡ cond b (cond s Missed Done) Waits → (b ≡ true) × (s ≡ true)
+missed-only true true e = (refl, refl)
+missed-only true false e = let z : _≡_ {A = ℕ} 0 1 = cc in absurd (omega arith)
+missed-only false s e = let z : _≡_ {A = ℕ} 0 1 = cc in absurd (omega arith)
+
+done-only : (b s : Bool) → Done ≡ cond b (cond s Missed Done) Waits → (b ≡ true) × (s ≡ false)
+done-only true true e = let z : _≡_ {A = ℕ} 0 1 = cc in absurd (omega arith)
+done-only true false e = (refl, refl)
+done-only false s e = let z : _≡_ {A = ℕ} 0 1 = cc in absurd (omega arith)
+
+pub fate-waits : (a : Activity) (t : ℕ) (s : Bool) → Waits ≡ fate-of a t s → a .release ≡ t → ⊥
+fate-waits a t s e = eqb-false (a .release) t (waits-only (eqb (a .release) t) s e)
+
+pub fate-missed : (a : Activity) (t : ℕ) (s : Bool) → Missed ≡ fate-of a t s → (a .release ≡ t) × (s ≡ true)
+fate-missed a t s e = let p = missed-only (eqb (a .release) t) s e in (eqb-true (a .release) t (p .0), p .1)
+
+pub fate-done : (a : Activity) (t : ℕ) (s : Bool) → Done ≡ fate-of a t s → (a .release ≡ t) × (s ≡ false)
+fate-done a t s e = let p = done-only (eqb (a .release) t) s e in (eqb-true (a .release) t (p .0), p .1)

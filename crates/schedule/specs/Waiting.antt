@@ -6,6 +6,8 @@ use Prim.Native.Nat.{ℕ, zero, suc, _<_}
 use lib.Dec.{eqb}
 use lib.ListN.{length, getD, set}
 use Rattle.schedule.specs.declared.activity.Activity.{Activity}
+use Rattle.schedule.specs.declared.activity.Fate.{Fate}
+use Rattle.schedule.specs.declared.activity.Fate.the-variants.{Waits, Missed, Done}
 use Rattle.schedule.specs.declared.waiting.Schedule.{Schedule}
 
 -- the activity that stands where there is none
@@ -36,6 +38,10 @@ None-due now xs = (due now xs ≡ []) × (still-waiting now xs ≡ xs)
 
 abbrev pub Some-due : ℕ → List Activity → Type 0
 Some-due now xs = (k : ℕ) × ((k < length xs) × (getD xs k no-activity .release ≡ now))
+
+-- what becomes of an activity in a tick, in safe mode or not
+abbrev pub fate-of : Activity → ℕ → Bool → Fate
+fate-of a now safe = cond (eqb (a .release) now) (cond safe Missed Done) Waits
 
 -- each puts its number at its place, one after the other
 abbrev pub put-all : List Activity → List ℕ → List ℕ

@@ -5,3 +5,11 @@ pub struct Activity {
     pub place: u64,
     pub number: u64,
 }
+
+/// What becomes of an activity in a tick.
+#[derive(Clone, Copy)]
+pub enum Fate {
+    Waits,
+    Missed,
+    Done,
+}

@@ -4,8 +4,9 @@ ghost use mathlib.Core.List.{[], _∷_, _++_};
 ghost use Prim.Native.Nat.{_<_, _≤_};
 ghost use lib.Dec.{leb};
 ghost use lib.ListN.{length};
-ghost use Rattle.schedule.specs.Waiting.{waiting, due, still-waiting, put-all, None-due, Some-due, Placed};
+ghost use Rattle.schedule.specs.Waiting.{waiting, due, still-waiting, put-all, fate-of, None-due, Some-due, Placed};
 use crate::activity::Activity;
+use crate::activity::Fate;
 use crate::waiting::Schedule;
 use parameters::Parameters;
 
@@ -93,13 +94,13 @@ impl Schedule {
         let mut missed = 0;
         for k in 0..self.count {
             let activity = activities[k];
-            if activity.release != time {
-                activities[stays] = activity;
-                stays += 1;
-            } else if safe_mode {
-                missed += 1;
-            } else {
-                values[activity.place as usize] = activity.number;
+            match fate(activity, time, safe_mode) {
+                Fate::Waits => {
+                    activities[stays] = activity;
+                    stays += 1;
+                }
+                Fate::Missed => missed += 1,
+                Fate::Done => values[activity.place as usize] = activity.number,
             }
         }
         Released {
@@ -110,5 +111,18 @@ impl Schedule {
             parameters: Parameters { values },
             missed,
         }
+    }
+}
+
+// What becomes of an activity in a tick: it waits on unless its time is now, and in safe mode it is then missed.
+fn fate(activity: Activity, time: u64, safe_mode: bool) -> Fate
+    ensures { λ r. ⌜ r ≡ fate-of activity time «safe_mode» ⌝ }
+{
+    if activity.release != time {
+        Fate::Waits
+    } else if safe_mode {
+        Fate::Missed
+    } else {
+        Fate::Done
     }
 }

@@ -2,9 +2,9 @@ use Prim.Native.Nat.{_<_}
 use native.Mathlib.Omega.{arith}
 use lib.ListN.{getD}
 use Rattle.schedule.specs.Waiting.{no-activity}
-use Rattle.schedule.proofs.Releasing.{waits-on, missed-on, put-on, placed-at, moved}
+use Rattle.schedule.proofs.Releasing.{waits-on, missed-on, put-on, placed-at, moved, fate-waits, fate-missed, fate-done}
 use Rattle.schedule.proofs.waiting.Schedule.release.Needs as need
-use Rattle.schedule.proofs.waiting.Schedule.release.Needs.{then-activity-time, else-activity-time·then-safe-mode, else-activity-time·else-safe-mode}
+use Rattle.schedule.proofs.waiting.Schedule.release.Needs.{in-Waits, in-Missed, in-Done}
 
 pub offset-values-activity : need.offset-values-activity
 offset-values-activity c =
@@ -15,11 +15,11 @@ index-values-activity c = placed-at _ _ _ _ (c .args .self .count) (c .loop-k .k
 
 pub loop-k-again : need.loop-k-again
 loop-k-again c =
-    elim (c .if-activity-time .came) [
-      | then-activity-time w ↦ moved _ _ _ _ _ _ _ _ _ _ _ _ _ (w .stays-is) (w .missed-is) (w .activities-is) (w .values-is)
-          (waits-on _ _ _ _ (c .loop-k .k) _ _ (c .loop-k .activities) _ (let h = c .args .self .few in omega arith) (c .loop-k .inv) (w .if-activity-time .taken))
-      | else-activity-time·then-safe-mode w ↦ moved _ _ _ _ _ _ _ _ _ _ _ _ _ (w .stays-is) (w .missed-is) (w .activities-is) (w .values-is)
-          (missed-on _ _ _ _ (c .loop-k .k) _ _ (c .loop-k .activities) _ (w .if-safe-mode .taken) (c .loop-k .inv) (w .if-activity-time .left))
-      | else-activity-time·else-safe-mode w ↦ moved _ _ _ _ _ _ _ _ _ _ _ _ _ (w .stays-is) (w .missed-is) (w .activities-is) (w .values-is)
-          (put-on _ _ _ _ (c .loop-k .k) _ _ (c .loop-k .activities) _ (w .if-safe-mode .left) (c .loop-k .inv) (w .if-activity-time .left))
+    elim (c .match-fate .came) [
+      | in-Waits w ↦ moved _ _ _ _ _ _ _ _ _ _ _ _ _ (w .stays-is) (w .missed-is) (w .activities-is) (w .values-is)
+          (waits-on _ _ _ _ (c .loop-k .k) _ _ (c .loop-k .activities) _ (let h = c .args .self .few in omega arith) (c .loop-k .inv) (fate-waits (getD (c .loop-k .activities) (c .loop-k .k) no-activity) (c .args .time) (c .args .safe-mode) (w .in-Waits .ensures tt)))
+      | in-Missed w ↦ let p = fate-missed (getD (c .loop-k .activities) (c .loop-k .k) no-activity) (c .args .time) (c .args .safe-mode) (w .in-Missed .ensures tt) in
+          moved _ _ _ _ _ _ _ _ _ _ _ _ _ (w .stays-is) (w .missed-is) (w .activities-is) (w .values-is) (missed-on _ _ _ _ (c .loop-k .k) _ _ (c .loop-k .activities) _ (p .1) (c .loop-k .inv) (p .0))
+      | in-Done w ↦ let p = fate-done (getD (c .loop-k .activities) (c .loop-k .k) no-activity) (c .args .time) (c .args .safe-mode) (w .in-Done .ensures tt) in
+          moved _ _ _ _ _ _ _ _ _ _ _ _ _ (w .stays-is) (w .missed-is) (w .activities-is) (w .values-is) (put-on _ _ _ _ (c .loop-k .k) _ _ (c .loop-k .activities) _ (p .1) (c .loop-k .inv) (p .0))
     ]
