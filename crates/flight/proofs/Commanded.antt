@@ -20,7 +20,8 @@ use Rattle.flight.proofs.Steps.{obeyed-cases, ticked-cases, ticked-heard, Rece
 pub expected-kept : (i : Inputs) (s : State) → at-reception i s .expected ≡ s .expected
 expected-kept i s = reception i s .expected
 
-done-expected : (s : State) (c : Command) → done s c .expected ≡ s .expected
+-- doing a command does not change which one is expected
+pub done-expected : (s : State) (c : Command) → done s c .expected ≡ s .expected
 done-expected s (Put a b) = refl
 done-expected s (Later a) = refl
 done-expected s Forget = refl

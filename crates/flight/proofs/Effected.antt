@@ -34,7 +34,7 @@ use Rattle.flight.proofs.Steps.{obeyed-cases, ticked-cases, ticked-heard, one-
 use Rattle.flight.proofs.Waits.{parts, among-due, put-other}
 use Rattle.flight.proofs.Sound.{may-place, Rule-ok, Rules-sound, Waits-sound, Sound, after-sound, after-sized}
 use Rattle.flight.proofs.Fitting.{place-may}
-use Rattle.flight.proofs.Commanded.{expected-kept, obeyed-else}
+use Rattle.flight.proofs.Commanded.{expected-kept, done-expected, obeyed-else}
 
 low-place : (a : ℕ) → a < 16 → may-put a ≡ false
 low-place a l = and-left (leb 16 a) (leb a 63) (lt-leb 16 a l)
@@ -65,17 +65,8 @@ its-turn i is c e can-do =
     let r = at-reception i (after is) in
     let k = expected-kept i (after is) in
     ticked-heard i (after is) (Some t) e
-    ∙ obeyed-cases t r (λ u. u ≡ with-expected (suc (after is .expected)) (done r c)) (λ _ _. ap (λ n. with-expected (suc n) (done r c)) (done-same r c ∙ k))
+    ∙ obeyed-cases t r (λ u. u ≡ with-expected (suc (after is .expected)) (done r c)) (λ _ _. ap (λ n. with-expected (suc n) (done r c)) (done-expected r c ∙ k))
     (λ _ f. absurd (true≢false (sym can-do ∙ f))) (λ f. absurd (f (sym k)))
-  where
-    done-same : (s : State) (c : Command) → done s c .expected ≡ s .expected
-    done-same s (Put a b) = refl
-    done-same s (Later a) = refl
-    done-same s Forget = refl
-    done-same s Sleep = refl
-    done-same s Wake = refl
-    done-same s (SetRule k r) = refl
-    done-same s (Unknown k) = refl
 
 not-done : (i : Inputs) (is : List Inputs) (c : Command) → Turn i is c → can (before-command i is) c ≡ false → after (i ∷ is) ≡ with-expected (suc (after is .expected)) (rejecting (before-command i is))
 not-done i is c e cannot =
