@@ -1,12 +1,17 @@
 //! A satellite in flight beside its story.
 use crate::story::Story;
+use crate::story::fault;
 use onboard::Done;
+use onboard::Refusal;
 use onboard::launch;
 use onboard::tick;
 use std::fmt;
 
 /// How many words memory keeps, each three times.
 pub const WORDS: usize = 294;
+
+// A report that nobody wrote yet.
+const UNTOUCHED: [u64; 8] = [9; 8];
 
 /// What a tick is given.
 #[derive(Clone, Copy)]
@@ -19,11 +24,27 @@ pub struct Inputs {
 #[derive(Clone, Copy, Drop)]
 pub enum Difference {
     Launch,
-    Refused { number: u64, place: u64 },
-    NotRefused { number: u64, place: u64 },
-    Report { place: usize, story: u64, flight: u64 },
-    Memory { place: usize, story: u64, flight: u64 },
-    Changed { place: usize },
+    Refused {
+        number: u64,
+        place: u64,
+    },
+    NotRefused {
+        number: u64,
+        place: u64,
+    },
+    Report {
+        place: usize,
+        story: u64,
+        flight: u64,
+    },
+    Memory {
+        place: usize,
+        story: u64,
+        flight: u64,
+    },
+    Changed {
+        place: usize,
+    },
 }
 
 pub impl fmt::Display for Difference as DifferenceDisplay {
@@ -40,16 +61,12 @@ pub impl fmt::Display for Difference as DifferenceDisplay {
                 place,
                 story,
                 flight,
-            } => {
-                write!(f, "number {place} of the report is {flight}, not {story}")
-            }
+            } => { write!(f, "number {place} of the report is {flight}, not {story}") }
             Difference::Memory {
                 place,
                 story,
                 flight,
-            } => {
-                write!(f, "number {place} of memory is {flight}, not {story}")
-            }
+            } => { write!(f, "number {place} of memory is {flight}, not {story}") }
             Difference::Changed { place } => {
                 write!(f, "number {place} of what was lent has changed")
             }
@@ -69,12 +86,9 @@ impl Flight {
         if launch(&mut memory).is_err() {
             return Err(Difference::Launch);
         }
-        let flight = Flight {
-            memory,
-            story: Story::at_launch(),
-        };
-        flight.agrees()?;
-        Ok(flight)
+        let story = Story::at_launch();
+        same_memory(&memory, &story.words())?;
+        Ok(Flight { memory, story })
     }
 
     /// Copy `copy` of a word becomes another number.
@@ -84,36 +98,109 @@ impl Flight {
 
     /// A tick of the satellite and of the story, which then agree in the report and in all of memory.
     pub fn tick(&mut self, inputs: &Inputs) -> Result<(), Difference> {
-        let report = fly(&mut self.memory, inputs)?;
+        let mut report = [0; 8];
+        let done = call(&mut self.memory, inputs, &mut report);
         self.story.tick(&inputs.readings, &inputs.frame);
-        same_report(&report, &self.story.report())?;
-        self.agrees()
-    }
-
-    // All three copies of every word are what the story has.
-    fn agrees(&self) -> Result<(), Difference> {
-        let words = self.story.words();
-        for k in 0..WORDS {
-            let story = words[k];
-            same(&self.memory, k, story)?;
-            same(&self.memory, WORDS + k, story)?;
-            same(&self.memory, 2 * WORDS + k, story)?;
+        match done {
+            Done::Ticked => {
+                same_report(&report, &self.story.report())?;
+                same_memory(&self.memory, &self.story.words())
+            }
+            Done::Refused(refusal) => Err(refused(refusal)),
         }
-        Ok(())
     }
 }
 
-fn same(memory: &[u64; 882], place: usize, story: u64) -> Result<(), Difference> {
-    let flight = memory[place % 882];
-    if flight == story {
+/// A tick from any memory: refused at the lowest word at fault, where there is one, and nothing is changed;
+/// else it goes on from what the copies of each word vote. Whether it was refused.
+pub fn tick_anywhere(memory: &[u64; 882], inputs: &Inputs) -> Result<bool, Difference> {
+    let words = voted(memory);
+    let mut after = *memory;
+    let mut report = UNTOUCHED;
+    let done = call(&mut after, inputs, &mut report);
+    match (done, fault(&words)) {
+        (Done::Refused(refusal), Some(word)) => {
+            same_refusal(refusal, 2, word as u64)?;
+            same_numbers(&after, memory)?;
+            same_numbers(&report, &UNTOUCHED)?;
+            Ok(true)
+        }
+        (Done::Ticked, None) => {
+            let mut flight = Flight {
+                memory: *memory,
+                story: Story::of(&words),
+            };
+            flight.tick(inputs)?;
+            Ok(false)
+        }
+        (Done::Refused(refusal), None) => Err(refused(refusal)),
+        (Done::Ticked, Some(word)) => Err(Difference::NotRefused {
+            number: 2,
+            place: word as u64,
+        }),
+    }
+}
+
+// Of each word what two of its copies say, or the first.
+fn voted(memory: &[u64; 882]) -> [u64; 294] {
+    let mut words = [0; 294];
+    for k in 0..WORDS {
+        let first = memory[k];
+        let second = memory[WORDS + k];
+        let third = memory[2 * WORDS + k];
+        words[k] = if second == third { second } else { first };
+    }
+    words
+}
+
+/// Calls the on-board program.
+pub fn call(memory: &mut [u64; 882], inputs: &Inputs, report: &mut [u64; 8]) -> Done {
+    match &inputs.frame {
+        Some(frame) => tick(memory, &inputs.readings, frame, report),
+        None => tick(memory, &inputs.readings, &[], report),
+    }
+}
+
+/// It should not have been refused.
+pub fn refused(refusal: Refusal) -> Difference {
+    Difference::Refused {
+        number: refusal.number(),
+        place: refusal.place(),
+    }
+}
+
+pub fn same_refusal(refusal: Refusal, number: u64, place: u64) -> Result<(), Difference> {
+    if refusal.number() == number && refusal.place() == place {
         Ok(())
     } else {
-        Err(Difference::Memory {
-            place,
-            story,
-            flight,
-        })
+        Err(refused(refusal))
     }
+}
+
+/// Nothing of what was lent has changed.
+pub fn same_numbers(after: &[u64], before: &[u64]) -> Result<(), Difference> {
+    for (place, (now, then)) in after.iter().zip(before.iter()).enumerate() {
+        if *now != *then {
+            return Err(Difference::Changed { place });
+        }
+    }
+    Ok(())
+}
+
+// All three copies of every word are what the story has.
+fn same_memory(memory: &[u64; 882], words: &[u64; 294]) -> Result<(), Difference> {
+    for place in 0..882 {
+        let story = words[place % WORDS];
+        let flight = memory[place];
+        if flight != story {
+            return Err(Difference::Memory {
+                place,
+                story,
+                flight,
+            });
+        }
+    }
+    Ok(())
 }
 
 fn same_report(report: &[u64; 8], story: &[u64; 8]) -> Result<(), Difference> {
@@ -127,20 +214,4 @@ fn same_report(report: &[u64; 8], story: &[u64; 8]) -> Result<(), Difference> {
         }
     }
     Ok(())
-}
-
-// Calls the on-board program: its report.
-fn fly(memory: &mut [u64; 882], inputs: &Inputs) -> Result<[u64; 8], Difference> {
-    let mut report = [0; 8];
-    let done = match &inputs.frame {
-        Some(frame) => tick(memory, &inputs.readings, frame, &mut report),
-        None => tick(memory, &inputs.readings, &[], &mut report),
-    };
-    match done {
-        Done::Ticked => Ok(report),
-        Done::Refused(refusal) => Err(Difference::Refused {
-            number: refusal.number(),
-            place: refusal.place(),
-        }),
-    }
 }

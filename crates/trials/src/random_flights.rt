@@ -3,17 +3,18 @@ use crate::flight::Difference;
 use crate::flight::Flight;
 use crate::flight::Inputs;
 use crate::flight::WORDS;
-use crate::frames::Said;
+use crate::frames::Order;
 use crate::frames::framed;
 use crate::random::Random;
 
-pub const FLIGHTS: u64 = 2;
+pub const FLIGHTS: u64 = 2000;
 
 pub const TICKS: u64 = 200;
 
 /// What happened.
 #[derive(Clone, Copy, Drop)]
 pub struct Tally {
+    pub flights: u64,
     pub frames: u64,
     pub obeyed: u64,
     pub rejected: u64,
@@ -21,19 +22,26 @@ pub struct Tally {
     pub hits: u64,
 }
 
-pub fn run(seed: u64) -> Result<Tally, Difference> {
-    let mut random = Random::new(seed);
-    let mut tally = Tally {
-        frames: 0,
-        obeyed: 0,
-        rejected: 0,
-        missed: 0,
-        hits: 0,
-    };
-    for _ in 0..FLIGHTS {
-        fly(&mut random, &mut tally)?;
+impl Tally {
+    pub fn new() -> Tally {
+        Tally {
+            flights: 0,
+            frames: 0,
+            obeyed: 0,
+            rejected: 0,
+            missed: 0,
+            hits: 0,
+        }
     }
-    Ok(tally)
+}
+
+pub fn run(seed: u64, tally: &mut Tally) -> Result<(), Difference> {
+    let mut random = Random::new(seed);
+    for _ in 0..FLIGHTS {
+        tally.flights = tally.flights.wrapping_add(1);
+        fly(&mut random, tally)?;
+    }
+    Ok(())
 }
 
 fn fly(random: &mut Random, tally: &mut Tally) -> Result<(), Difference> {
@@ -51,7 +59,9 @@ fn fly(random: &mut Random, tally: &mut Tally) -> Result<(), Difference> {
         flight.tick(&Inputs { readings, frame })?;
     }
     let story = &flight.story;
-    tally.obeyed = tally.obeyed.wrapping_add(story.expected.wrapping_sub(story.rejected));
+    tally.obeyed = tally
+        .obeyed
+        .wrapping_add(story.expected.wrapping_sub(story.rejected));
     tally.rejected = tally.rejected.wrapping_add(story.rejected);
     tally.missed = tally.missed.wrapping_add(story.missed);
     Ok(())
@@ -88,11 +98,8 @@ fn fresh(random: &mut Random, flight: &Flight) -> [u64; 12] {
         _ => expected,
     };
     let kind = random.below(7);
-    framed(Said {
-        number: number & 0xffff_ffff,
-        kind,
-        arguments: arguments(random, kind, flight.story.time),
-    })
+    let arguments = arguments(random, kind, flight.story.time);
+    framed(number & 0xffff_ffff, Order { kind, arguments })
 }
 
 fn arguments(random: &mut Random, kind: u64, time: u64) -> [u64; 9] {

@@ -34,6 +34,9 @@ pub struct Story {
     pub watches: [Watch; 16],
 }
 
+/// No number of a flight of fewer than 2^62 ticks is larger.
+pub const LARGEST: u64 = 0x4000_0000_0000_0000;
+
 const NOTHING: Waiting = Waiting {
     release: 0,
     place: 0,
@@ -203,6 +206,54 @@ impl Story {
         can
     }
 
+    /// The satellite that words without a fault say.
+    pub fn of(words: &[u64; 294]) -> Story {
+        let mut story = Story::at_launch();
+        story.time = words[0];
+        story.expected = words[1];
+        story.safe_mode = words[2] == 1;
+        story.rejected = words[3];
+        story.missed = words[4];
+        story.read_parameters(words);
+        story.read_activities(words);
+        story.read_watches(words);
+        story
+    }
+
+    fn read_parameters(&mut self, words: &[u64; 294]) {
+        for i in 0..64 {
+            self.parameters[i] = words[5 + i];
+        }
+    }
+
+    fn read_activities(&mut self, words: &[u64; 294]) {
+        let waiting = words[69];
+        for k in 0..32 {
+            if (k as u64) < waiting {
+                self.keep(Waiting {
+                    release: words[70 + 3 * k],
+                    place: words[71 + 3 * k],
+                    number: words[72 + 3 * k],
+                });
+            }
+        }
+    }
+
+    fn read_watches(&mut self, words: &[u64; 294]) {
+        for k in 0..16 {
+            self.watches[k] = Watch {
+                watches: words[166 + 7 * k],
+                limit: words[167 + 7 * k],
+                upward: words[168 + 7 * k] == 1,
+                needs: words[169 + 7 * k],
+                safes: words[170 + 7 * k] == 1,
+                place: words[171 + 7 * k],
+                number: words[172 + 7 * k],
+                count: words[278 + k],
+            };
+        }
+    }
+
     /// What goes down after a tick.
     pub fn report(&self) -> [u64; 8] {
         [
@@ -259,6 +310,50 @@ impl Story {
             words[172 + 7 * k] = rule.number;
             words[278 + k] = rule.count;
         }
+    }
+}
+
+/// The lowest word that no lawful flight leaves.
+pub fn fault(words: &[u64; 294]) -> Option<usize> {
+    for k in 0..294 {
+        if words[k] > LARGEST || is_misplaced(words, k) {
+            return Some(k);
+        }
+    }
+    None
+}
+
+fn is_misplaced(words: &[u64; 294], k: usize) -> bool {
+    if k == 69 {
+        words[69] > 32
+    } else if k >= 70 && k < 166 {
+        is_wrong_activity(words, k - 70)
+    } else if k >= 166 && k < 278 {
+        is_wrong_watch(words, k - 166)
+    } else {
+        false
+    }
+}
+
+// Whether word k of the activities waits for a time that has been, or for a place that cannot be put.
+fn is_wrong_activity(words: &[u64; 294], k: usize) -> bool {
+    let word = words[70 + k % 96];
+    let waits = ((k / 3) as u64) < words[69];
+    match k % 3 {
+        0 => waits && word <= words[0],
+        1 => waits && !is_free(word),
+        _ => false,
+    }
+}
+
+// Whether word k of the rules watches no parameter, or is the place of a rule that would put where it cannot.
+fn is_wrong_watch(words: &[u64; 294], k: usize) -> bool {
+    let k = k % 112;
+    let word = words[166 + k];
+    match k % 7 {
+        0 => word >= 64,
+        5 => words[166 + k - 2] > 0 && words[166 + k - 1] != 1 && !is_free(word),
+        _ => false,
     }
 }
 
