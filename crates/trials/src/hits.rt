@@ -4,7 +4,9 @@ use crate::flight::Flight;
 use crate::flight::Inputs;
 use crate::flight::WORDS;
 use crate::flight::tick_anywhere;
-use crate::rich::rich;
+use crate::frames::Order;
+use crate::frames::framed;
+use crate::rich::eventful;
 use crate::story::LARGEST;
 
 /// What happened.
@@ -20,14 +22,9 @@ pub struct Tally {
 /// How many numbers a hit makes of a word.
 pub const NUMBERS: usize = 72;
 
-const INPUTS: Inputs = Inputs {
-    readings: [10; 16],
-    frame: None,
-};
-
 /// Each of the 882 numbers is hit, and each two copies of each word.
 pub fn run(tally: &mut Tally) -> Result<(), Difference> {
-    let flight = rich()?;
+    let flight = eventful()?;
     for word in 0..WORDS {
         for copy in 0..3 {
             hit_one(&flight, word, copy, tally)?;
@@ -37,13 +34,22 @@ pub fn run(tally: &mut Tally) -> Result<(), Difference> {
     Ok(())
 }
 
+// A put comes up, and the instruments read different numbers.
+fn inputs(flight: &Flight) -> Inputs {
+    let arguments = [30, 99, 0, 0, 0, 0, 0, 0, 0];
+    Inputs {
+        readings: [3, 1, 10, 7, 0, 65535, 6, 5, 4, 3, 2, 1, 0, 11, 12, 13],
+        frame: Some(framed(flight.story.expected, Order { kind: 0, arguments })),
+    }
+}
+
 // A hit in one copy changes nothing in the report or in memory after the tick.
 fn hit_one(flight: &Flight, word: usize, copy: usize, tally: &mut Tally) -> Result<(), Difference> {
     let kept = flight.memory[word % WORDS];
     for k in 0..NUMBERS {
         let mut hit = *flight;
         hit.hit(copy, word, number(k, kept));
-        hit.tick(&INPUTS)?;
+        hit.tick(&inputs(flight))?;
         tally.lawful = tally.lawful.wrapping_add(1);
     }
     Ok(())
@@ -59,7 +65,7 @@ fn hit_two(flight: &Flight, word: usize, copy: usize, tally: &mut Tally) -> Resu
         hit.hit(copy, word, first);
         hit.hit(copy % 3 + 1, word, second);
         tally.unlawful = tally.unlawful.wrapping_add(1);
-        if tick_anywhere(&hit.memory, &INPUTS)? {
+        if tick_anywhere(&hit.memory, &inputs(flight))? {
             tally.refused = tally.refused.wrapping_add(1);
         }
     }

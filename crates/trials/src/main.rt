@@ -12,6 +12,9 @@ mod story;
 
 use flight::Difference;
 use flight::DifferenceDisplay;
+use random_flights::TICKS;
+use random_flights::Tally;
+use random_flights::UplinkTally;
 use std::error::AnyError;
 
 const SEED: u64 = 1;
@@ -38,20 +41,51 @@ fn end(rt: &LibcRuntime, result: Result<(), Difference>) -> Result<(), AnyError>
 }
 
 fn random_trial(rt: &LibcRuntime) -> Result<(), AnyError> {
-    let mut tally = random_flights::Tally::new();
+    let mut tally = Tally::new();
     let result = random_flights::run(SEED, &mut tally);
     let flights = tally.flights;
-    let frames = tally.frames;
-    let obeyed = tally.obeyed;
-    let rejected = tally.rejected;
-    let missed = tally.missed;
     let hits = tally.hits;
     print!(
         rt,
-        "random flights: seed {SEED}, {flights} flights of {} ticks, {frames} frames, {obeyed} obeyed, {rejected} rejected, {missed} missed, {hits} hits",
-        random_flights::TICKS
+        "random flights: seed {SEED}, {flights} flights of {TICKS} ticks, {hits} hits; "
     )?;
+    print_frames(rt, tally.uplink)?;
+    print_commands(rt, &tally)?;
+    if result.is_err() {
+        let ticks = tally.ticks;
+        print!(rt, "; in tick {ticks} of the last flight")?;
+    }
     end(rt, result)
+}
+
+fn print_frames(rt: &LibcRuntime, tally: UplinkTally) -> Result<(), AnyError> {
+    let whole = tally.whole;
+    let lost = tally.lost;
+    let doubled = tally.doubled;
+    let delayed = tally.delayed;
+    let damaged = tally.damaged;
+    print!(
+        rt,
+        "frames: {whole} whole, {lost} lost, {doubled} doubled, {delayed} delayed, {damaged} damaged; "
+    )?;
+    Ok(())
+}
+
+fn print_commands(rt: &LibcRuntime, tally: &Tally) -> Result<(), AnyError> {
+    let [put, later, forget, sleep, wake, rule] = tally.done;
+    let rejected = tally.rejected;
+    let missed = tally.missed;
+    let acted = tally.acted;
+    let full = tally.full;
+    print!(
+        rt,
+        "obeyed: {put} put, {later} later, {forget} forget, {sleep} sleep, {wake} wake, {rule} rule; "
+    )?;
+    print!(
+        rt,
+        "{rejected} rejected, {missed} missed, rules acted {acted} times, {full} ticks with 32 waiting"
+    )?;
+    Ok(())
 }
 
 fn short_trial(rt: &LibcRuntime) -> Result<(), AnyError> {

@@ -1,7 +1,6 @@
 //! Refusals: lent numbers of other lengths, and memory at fault. Nothing lent changes.
 use crate::flight::Difference;
 use crate::flight::Flight;
-use crate::flight::Inputs;
 use crate::flight::WORDS;
 use crate::flight::call;
 use crate::flight::same_numbers;
@@ -9,6 +8,7 @@ use crate::flight::same_refusal;
 use crate::flight::tick_anywhere;
 use crate::hits::NUMBERS;
 use crate::hits::number;
+use crate::rich::QUIET;
 use crate::rich::rich;
 use onboard::Done;
 use onboard::Refusal;
@@ -34,11 +34,6 @@ struct Lengths {
 
 const MEMORIES: [usize; 8] = [0, 1, 293, 294, 588, 881, 882, 883];
 
-const INPUTS: Inputs = Inputs {
-    readings: [10; 16],
-    frame: None,
-};
-
 // No word at all.
 const NONE: usize = 294;
 
@@ -57,8 +52,8 @@ const DAMAGE: [(usize, u64, usize); 30] = [
     (69, 32, 163),
     (69, 30, NONE),
     // an activity whose time has been
-    (0, 40, NONE),
-    (0, 41, 70),
+    (0, 41, NONE),
+    (0, 42, 70),
     (0, 0x4000_0000_0000_0000, 70),
     (70, 39, 70),
     (70, 40, NONE),
@@ -100,13 +95,17 @@ pub fn run(tally: &mut Tally) -> Result<(), Difference> {
 }
 
 fn launch_lengths(flight: &Flight, tally: &mut Tally) -> Result<(), Difference> {
-    for length in 0..882 {
-        let mut memory = flight.memory;
+    let before = lengthened(&flight.memory);
+    for length in 0..884 {
+        if length == 882 {
+            continue;
+        }
+        let mut memory = before;
         match launch_part(&mut memory, length) {
             Ok(()) => return Err(not_refused(1, 0)),
             Err(refusal) => same_refusal(refusal, 1, 0)?,
         }
-        same_numbers(&memory, &flight.memory)?;
+        same_numbers(&memory, &before)?;
         tally.lengths = tally.lengths.wrapping_add(1);
     }
     Ok(())
@@ -205,7 +204,7 @@ fn damage(
     overwrite(&mut damaged, word, number);
     judge(&damaged, tally)?;
     let mut report = [9; 8];
-    match call(&mut damaged.memory, &INPUTS, &mut report) {
+    match call(&mut damaged.memory, &QUIET, &mut report) {
         Done::Ticked if at_fault == NONE => Ok(()),
         Done::Ticked => Err(not_refused(2, at_fault as u64)),
         Done::Refused(refusal) => same_refusal(refusal, 2, at_fault as u64),
@@ -226,7 +225,7 @@ fn damage_two(flight: &Flight, word: usize, tally: &mut Tally) -> Result<(), Dif
 }
 
 fn judge(damaged: &Flight, tally: &mut Tally) -> Result<(), Difference> {
-    if tick_anywhere(&damaged.memory, &INPUTS)? {
+    if tick_anywhere(&damaged.memory, &QUIET)? {
         tally.faults = tally.faults.wrapping_add(1);
     } else {
         tally.fit = tally.fit.wrapping_add(1);

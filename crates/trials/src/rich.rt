@@ -1,4 +1,5 @@
 //! A flight in which much goes on: rules set and counting, parameters put, and 31 activities waiting.
+//! In tick 42 the first two activities are due and a rule acts.
 use crate::flight::Difference;
 use crate::flight::Flight;
 use crate::flight::Inputs;
@@ -10,7 +11,7 @@ const FIRST: [[u64; 9]; 8] = [
     [4, 0, 0, 0, 0, 0, 0, 0, 0],
     [0, 16, 1234, 0, 0, 0, 0, 0, 0],
     [0, 63, 0xffff_ffff, 0, 0, 0, 0, 0, 0],
-    [5, 0, 2, 10, 1, 37, 0, 20, 77],
+    [5, 0, 2, 10, 1, 38, 0, 20, 77],
     [5, 1, 2, 10, 0, 3, 0, 21, 78],
     [5, 7, 16, 1000, 1, 0xffff_ffff, 1, 0, 0],
     [5, 15, 63, 8, 0, 2, 1, 64, 79],
@@ -28,12 +29,26 @@ pub fn rich() -> Result<Flight, Difference> {
         command(&mut flight, Order { kind, arguments })?;
     }
     for k in 0..ACTIVITIES {
-        let release = 41 + k / 2;
+        let release = 42 + k / 2;
         let arguments = [release, 16 + k, 500 + k, 0, 0, 0, 0, 0, 0];
         command(&mut flight, Order { kind: 1, arguments })?;
     }
     Ok(flight)
 }
+
+/// The same flight when tick 42 is the next.
+pub fn eventful() -> Result<Flight, Difference> {
+    let mut flight = rich()?;
+    flight.tick(&QUIET)?;
+    flight.tick(&QUIET)?;
+    Ok(flight)
+}
+
+/// No frame comes up.
+pub const QUIET: Inputs = Inputs {
+    readings: [10; 16],
+    frame: None,
+};
 
 fn command(flight: &mut Flight, order: Order) -> Result<(), Difference> {
     let number = flight.story.expected;
