@@ -12,7 +12,7 @@
 
 #include "flights.h"
 
-enum { STACK = 1 << 18, PAINT = 0xa5, FLOWN = 400 };
+enum { STACK = 1 << 18, PAINT = 0xa5, FLOWN = 100 };
 
 typedef void Satellites(Memory *m);
 
@@ -34,10 +34,10 @@ static void set_up(int n, Lent *lent) {
         prepare(lent, busy);
         for (int copy = 0; copy < COPIES; copy++) lent->memory[copy * WORDS + WORDS - 1] = ~0ull;
     } else {
-        if (n == PREPARED + 2 || lent->memory[0] >= 1000) board_launch(lent->memory, NUMBERS);
+        if (n == PREPARED + 2) board_launch(lent->memory, NUMBERS);
         for (int i = 0; i < READINGS; i++) lent->readings[i] = (uint16_t)any(64);
         any_frame(lent);
-        if (!any(4)) any_upset(lent);
+        if (!any(4)) lent->memory[any(NUMBERS)] = any(70); // in one copy, so that it is voted away
     }
 }
 
