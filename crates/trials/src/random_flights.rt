@@ -7,6 +7,7 @@ use crate::frames::Order;
 use crate::frames::framed;
 use crate::random::Random;
 use crate::story::Story;
+use crate::story::check_of;
 
 pub const FLIGHTS: u64 = 2000;
 
@@ -179,6 +180,7 @@ impl Uplink {
     }
 }
 
+// One of its numbers is another; half of the time the check is worked out again.
 fn damaged(frame: [u64; 12], random: &mut Random) -> [u64; 12] {
     let mut damaged = frame;
     let i = random.below(12) as usize;
@@ -187,6 +189,9 @@ fn damaged(frame: [u64; 12], random: &mut Random) -> [u64; 12] {
         1 => damaged[i].wrapping_add(0x1_0000_0000),
         _ => random.next(),
     };
+    if random.once_in(2) {
+        damaged[11] = check_of(&damaged);
+    }
     damaged
 }
 
