@@ -1,4 +1,7 @@
 //! The entries as a board written in C calls them: lent numbers in, one number out.
+
+#![tactic(auto)]
+
 ghost use Rattle.std.specs.Prelude.{◌≡◌, ◌<◌};
 ghost use Rattle.onboard.specs.Entry.{refusal_place};
 ghost use Rattle.board.specs.Answer.{refusal_answer, AnswersTick, AnswersLaunch};

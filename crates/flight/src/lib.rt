@@ -1,4 +1,7 @@
 //! The theorems over every flight, each carried by the contract of a function.
+
+#![tactic(auto)]
+
 ghost use Rattle.flight.specs.Flight.{FliesRight, NeverRefused, CarriesOn};
 ghost use Rattle.flight.specs.Commanding.{EachOnce, ComesThrough, SafeAtOnce};
 ghost use Rattle.flight.specs.Effects.{CommandsAct, ElseIgnored, TickKeeps, ReadsRight, KeepsSizes, TimeRight, RejectedRight, LaunchesRight};

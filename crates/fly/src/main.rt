@@ -1,4 +1,7 @@
 //! Flies a flight text and prints a line for each tick.
+
+#![tactic(auto)]
+
 use anyhow::anyhow;
 use mission::{Failure, fly_lines};
 use std::fmt::Formatter;

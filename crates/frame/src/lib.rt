@@ -1,4 +1,7 @@
 //! Telecommand frames: twelve numbers below 2^32, the last of them a check over the others.
+
+#![tactic(auto)]
+
 ghost use Rattle.std.specs.Prelude.{◌≡◌, ◌%◌, true, length, Some, nat_le};
 ghost use Rattle.frame.specs.Frame.{all_small, check_of, is_whole, command_of, rule_of, decoded, body, encodable, encoded, encoding, is_kind};
 
@@ -93,8 +96,8 @@ fn carried(x: u64) -> bool
 
 // Each of the first eleven numbers times one more than its place, added, modulo 65,521.
 fn check(frame: &[u64]) -> u64
-    requires frame_len { length frame.now ≡ 12 }
-    requires frame_value { all_small frame.now ≡ true }
+    requires twelve { length frame.now ≡ 12 }
+    requires numbers_small { all_small frame.now ≡ true }
     ensures { result ≡ check_of frame.now }
 {
     let mut sum = 0;

@@ -1,4 +1,7 @@
 //! The ground: reads reports, and names the frame to send for each.
+
+#![tactic(auto)]
+
 use anyhow::anyhow;
 use station::Station;
 use std::str::from_utf8;

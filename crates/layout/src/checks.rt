@@ -47,8 +47,8 @@ fn small(words: &[u64]) -> bool
 }
 
 fn activities_sane(words: &[u64]) -> bool
-    requires words_len { length words.now ≡ 294 }
-    requires words_bound { slice_index words.now 69 ≤ 32 }
+    requires whole { length words.now ≡ 294 }
+    requires few_wait { slice_index words.now 69 ≤ 32 }
     ensures { result ≡ true → ((i : ℕ) → i < slice_index words.now 69 → Later words.now i × Placed words.now i) }
 {
     for i in 0..words[WAITING] as usize {
@@ -74,8 +74,8 @@ fn rules_sane(words: &[u64]) -> bool
 }
 
 fn rule_sane(words: &[u64], i: usize) -> bool
-    requires words_len { length words.now ≡ 294 }
-    requires i_bound { i < 16 }
+    requires whole { length words.now ≡ 294 }
+    requires inside { i < 16 }
     ensures { result ≡ true → Watches words.now i × Puts words.now i }
 {
     let needs = words[RULES + 3 + RULE * i];
@@ -85,8 +85,8 @@ fn rule_sane(words: &[u64], i: usize) -> bool
 }
 
 fn at_fault(words: &[u64], k: usize) -> bool
-    requires words_len { length words.now ≡ 294 }
-    requires k_bound { k < 294 }
+    requires whole { length words.now ≡ 294 }
+    requires inside { k < 294 }
     ensures { result ≡ at_fault words.now k }
 {
     if words[k] > LARGEST {
@@ -106,9 +106,9 @@ fn at_fault(words: &[u64], k: usize) -> bool
 
 // Of an activity that waits: its time is not after now, or its place may not be put.
 fn activity_fault(words: &[u64], k: usize) -> bool
-    requires words_len { length words.now ≡ 294 }
-    requires le_k { 70 ≤ k }
-    requires k_bound { k < 166 }
+    requires whole { length words.now ≡ 294 }
+    requires past { 70 ≤ k }
+    requires inside { k < 166 }
     ensures { result ≡ activity_fault words.now k }
 {
     if (k - ACTIVITIES) / ACTIVITY >= words[WAITING] as usize {
@@ -123,9 +123,9 @@ fn activity_fault(words: &[u64], k: usize) -> bool
 
 // Of a rule: it watches no parameter, or it is on and puts where it may not.
 fn rule_fault(words: &[u64], k: usize) -> bool
-    requires words_len { length words.now ≡ 294 }
-    requires le_k { 166 ≤ k }
-    requires k_bound { k < 278 }
+    requires whole { length words.now ≡ 294 }
+    requires past { 166 ≤ k }
+    requires inside { k < 278 }
     ensures { result ≡ rule_fault words.now k }
 {
     match (k - RULES) % RULE {

@@ -1,4 +1,7 @@
 //! The memory map: where the words of the satellite lie, and which words no lawful flight leaves.
+
+#![tactic(auto)]
+
 mod checks;
 mod map;
 mod read;

@@ -14,8 +14,8 @@ use schedule::{Activity, NO_ACTIVITY, ROOM, Schedule};
 
 /// The satellite that words say.
 pub fn satellite(words: &[u64]) -> Satellite
-    requires words_len { length words.now ≡ 294 }
-    requires words_bound { slice_index words.now 69 ≤ 32 }
+    requires whole { length words.now ≡ 294 }
+    requires few_wait { slice_index words.now 69 ≤ 32 }
     ensures { model result ≡ state_of words.now }
 {
     let parameters = Parameters {
@@ -38,8 +38,8 @@ pub fn satellite(words: &[u64]) -> Satellite
 }
 
 fn schedule(words: &[u64]) -> Schedule
-    requires words_len { length words.now ≡ 294 }
-    requires words_bound { slice_index words.now 69 ≤ 32 }
+    requires whole { length words.now ≡ 294 }
+    requires few_wait { slice_index words.now 69 ≤ 32 }
     ensures { waiting result ≡ schedule_in words.now }
 {
     let count = words[WAITING] as usize;
@@ -51,8 +51,8 @@ fn schedule(words: &[u64]) -> Schedule
 }
 
 fn activity(words: &[u64], k: usize) -> Activity
-    requires words_len { length words.now ≡ 294 }
-    requires k_bound { k < 32 }
+    requires whole { length words.now ≡ 294 }
+    requires inside { k < 32 }
     ensures { result ≡ activity_at words.now k }
 {
     Activity {
@@ -74,8 +74,8 @@ fn rules(words: &[u64]) -> [Rule; 16]
 }
 
 fn rule(words: &[u64], k: usize) -> Rule
-    requires words_len { length words.now ≡ 294 }
-    requires k_bound { k < 16 }
+    requires whole { length words.now ≡ 294 }
+    requires inside { k < 16 }
     ensures { result ≡ rule_at words.now k }
 {
     Rule {

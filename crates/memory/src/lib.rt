@@ -1,4 +1,7 @@
 //! Words kept three times, so that an upset in one copy of a word is voted away.
+
+#![tactic(auto)]
+
 ghost use Rattle.std.specs.Prelude.{◌≡◌, ℕ, ◌+◌, ◌*◌, ◌<◌, ◌≤◌, length, slice_set};
 ghost use Rattle.memory.specs.Threefold.{majority, voted, voted_words, thrice, VotesMend, UpsetsHappen};
 
@@ -60,8 +63,8 @@ pub fn store<const N: usize>(memory: &mut [u64], words: [u64; N])
 
 // Writes a word to its three places among n words.
 fn write(memory: &mut [u64], n: usize, k: usize, word: u64)
-    requires memory_len { length memory.old ≡ 3 * n }
-    requires k_lt_n { k < n }
+    requires whole { length memory.old ≡ 3 * n }
+    requires inside { k < n }
     ensures { memory.new ≡ slice_set (slice_set (slice_set memory.old k word) (n + k) word) (2 * n + k) word }
 {
     memory[k] = word;

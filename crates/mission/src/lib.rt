@@ -1,4 +1,7 @@
 //! Flies the events of a flight text through the on-board program.
+
+#![tactic(auto)]
+
 mod aloft;
 mod run;
 mod steps;

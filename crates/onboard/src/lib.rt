@@ -1,4 +1,7 @@
 //! The entries of the on-board program, over numbers that the board lends. Nothing here allocates.
+
+#![tactic(auto)]
+
 ghost use Rattle.std.specs.Prelude.{◌≡◌, ℕ, List};
 ghost use Rattle.telemetry.specs.Reports.{report_of, numbers_of};
 ghost use Rattle.onboard.specs.Entry.{lent_place, refusal_number, refusal_place, wrong_length, Says, Goes_on, Launches};

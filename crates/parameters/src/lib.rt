@@ -1,4 +1,7 @@
 //! The 64 parameters, by value: 0 to 15 are read from instruments, numbers may be put at 16 to 63.
+
+#![tactic(auto)]
+
 ghost use Rattle.std.specs.Prelude.{◌≡◌, ◌<◌, length, replicate, slice_index, slice_set};
 ghost use Rattle.parameters.specs.Places.{may_put, read_in};
 

@@ -1,4 +1,7 @@
 //! The 16 fault-protection rules, by value, each with its count.
+
+#![tactic(auto)]
+
 ghost use Rattle.std.specs.Prelude.{◌≡◌, ◌+◌, ◌<◌, ◌≤◌, get_or, set, replicate};
 ghost use Rattle.rules.specs.Watching.{off, is_past, next_count, acts, may_set};
 

@@ -13,8 +13,8 @@ impl Satellite {
     /// The expected command is done or counted as rejected, and then the next one is expected.
     /// Any other command is as if it had not come.
     pub fn obey(self, telecommand: Telecommand) -> Satellite
-        requires expected_le_most { self.expected ≤ most }
-        requires rejected_le_most { self.rejected ≤ most }
+        requires low_expected { self.expected ≤ most }
+        requires low_rejected { self.rejected ≤ most }
         ensures { model result ≡ obeyed telecommand (model self) }
     {
         if telecommand.number != self.expected {

@@ -32,7 +32,7 @@ impl Satellite {
     /// One tick: time and readings, rules, activities that are due, and then the command of the
     /// frame that came up, if it is whole.
     pub fn tick(self, readings: &[u16], frame: &[u64]) -> Satellite
-        requires readings_len { length readings.now ≡ 16 }
+        requires sixteen { length readings.now ≡ 16 }
         requires fit { Fit (model self) }
         ensures { model result ≡ ticked (record { readings = readings.entry.now; frame = frame.now }) (model self) }
     {
@@ -52,8 +52,8 @@ impl Satellite {
 
     /// Time goes on by one, and the first sixteen parameters are what the instruments read.
     pub fn begin(self, readings: &[u16]) -> Satellite
-        requires readings_len { length readings.now ≡ 16 }
-        requires time_le_most { self.time ≤ most }
+        requires sixteen { length readings.now ≡ 16 }
+        requires early { self.time ≤ most }
         ensures { model result ≡ begun readings.now (model self) }
     {
         Satellite {
@@ -82,8 +82,8 @@ impl Satellite {
 
     /// For how many ticks a rule has been past its limit, with this one.
     pub fn look(&self, k: usize) -> u64
-        requires k_bound { k < 16 }
-        requires off_bound { (slice_index_or self.now.rules.list k off).watches < 64 }
+        requires inside { k < 16 }
+        requires watches { (slice_index_or self.now.rules.list k off).watches < 64 }
         requires k_bound_2 { slice_index self.now.rules.counts k ≤ most }
         ensures { result ≡ looked k (model self.now) }
     {
@@ -112,7 +112,7 @@ impl Satellite {
     /// The activities whose time it is put their numbers, or are missed in safe mode.
     pub fn release(self) -> Satellite
         requires placed { Placed (waiting self.schedule) }
-        requires missed_le_most { self.missed ≤ most }
+        requires low_missed { self.missed ≤ most }
         ensures { model result ≡ released (model self) }
     {
         let released = self

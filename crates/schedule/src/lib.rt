@@ -1,4 +1,7 @@
 //! The schedule: activities that wait for their time, released in the tick that they name.
+
+#![tactic(auto)]
+
 mod activity;
 mod release;
 mod waiting;

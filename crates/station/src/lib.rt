@@ -1,4 +1,7 @@
 //! The ground's side: from a file of commands and the reports heard so far, which frame to send next and what is surely so.
+
+#![tactic(auto)]
+
 ghost use Rattle.std.specs.Prelude.{◌≡◌, Some, None};
 ghost use Rattle.station.specs.Line.{frame_for, expected_of, rejected_of, later_of};
 ghost use Rattle.station.specs.Passes.{SurelyObeyed, ComesThrough, AllObeyed};

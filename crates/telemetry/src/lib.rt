@@ -1,4 +1,7 @@
 //! Reports: what the satellite says of itself after each tick.
+
+#![tactic(auto)]
+
 ghost use Rattle.std.specs.Prelude.{◌≡◌, Some};
 ghost use Rattle.satellite.specs.Model.{model};
 ghost use Rattle.telemetry.specs.Reports.{report_of, numbers_of, reported};

@@ -1,4 +1,7 @@
 //! Flight texts: what a satellite reads, hears and suffers, tick by tick, as lines of words.
+
+#![tactic(auto)]
+
 mod cut;
 mod event;
 mod fault;

@@ -1,5 +1,8 @@
 //! Trials of the on-board program beside a story of its own, which keeps everything once.
 //! The first difference is printed and ends the program with status 1.
+
+#![tactic(auto)]
+
 mod flight;
 mod frames;
 mod hits;

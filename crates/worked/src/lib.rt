@@ -1,4 +1,7 @@
 //! Worked examples: small flights with the outcome that the ground expects of them.
+
+#![tactic(auto)]
+
 use frame::{Command, Telecommand, encode};
 use onboard::{Done, launch, tick};
 use rules::Rule;

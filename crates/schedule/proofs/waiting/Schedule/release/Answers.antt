@@ -4,8 +4,8 @@ use Rattle.schedule.proofs.Releasing.{waits_on, missed_on, put_on, placed_at, mo
 use Rattle.schedule.proofs.waiting.Schedule.release.Goals as goal
 use Rattle.schedule.proofs.waiting.Schedule.release.Goals.{in-Waits, in-Missed, in-Done}
 
-pub offset-bounds-values-activity : goal.offset-bounds-values-activity
-offset-bounds-values-activity c =
+pub offset_bounds-values-activity : goal.offset_bounds-values-activity
+offset_bounds-values-activity c =
     let p : (get_or c.loop-k.activities c.loop-k.k no_activity).place < 64 = placed_at _ _ _ _ c.args.self.count c.loop-k.k _ _ _ _ c.loop-k.invariant c.loop-k-test.true c.requires in omega arith
 
 pub bounds-values-activity : goal.bounds-values-activity
