@@ -84,7 +84,7 @@ impl Satellite {
     pub fn look(&self, k: usize) -> u64
         requires inside { k < 16 }
         requires watches { (slice_index_or self.now.rules.list k off).watches < 64 }
-        requires k_bound_2 { slice_index self.now.rules.counts k ≤ most }
+        requires counted { slice_index self.now.rules.counts k ≤ most }
         ensures { result ≡ looked k (model self.now) }
     {
         let rule = self.rules.list[k];

@@ -9,11 +9,11 @@ use Rattle.satellite.proofs.state.Satellite.watch.Goals as goal
 use Rattle.satellite.proofs.state.Satellite.watch.Goals.{then-acts, else-acts}
 
 pub look-count-requires : goal.look-count-requires
-look-count-requires c = (
-  c.loop-k-test.true,
-  (its_rule c.loop-k.k (model c.args.self) (model c.loop-k.satellite) c.loop-k.invariant c.loop-k-test.true c.requires).watches,
-  its_count c.loop-k.k (model c.args.self) (model c.loop-k.satellite) c.loop-k.invariant c.loop-k-test.true c.requires,
-)
+look-count-requires c = record {
+  inside = c.loop-k-test.true;
+  watches = (its_rule c.loop-k.k (model c.args.self) (model c.loop-k.satellite) c.loop-k.invariant c.loop-k-test.true c.requires).watches;
+  counted = its_count c.loop-k.k (model c.args.self) (model c.loop-k.satellite) c.loop-k.invariant c.loop-k-test.true c.requires;
+}
 
 pub act-satellite-requires : goal.act-satellite-requires
 act-satellite-requires c =
