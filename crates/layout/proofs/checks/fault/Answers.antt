@@ -5,11 +5,11 @@ use Rattle.layout.proofs.checks.fault.Goals as goal
 pub returns-then-sane : goal.returns-then-sane
 returns-then-sane c = faultless_of c.args.words.now (c.sane.ensures c.if-sane.true)
 
-pub returns-then-at-fault : goal.returns-then-at-fault
-returns-then-at-fault c = (omega arith, sym c.at_fault.ensures ∙ c.if-at-fault.true, c.loop-k.invariant)
+pub returns-then-at_fault : goal.returns-then-at_fault
+returns-then-at_fault c = (omega arith, sym c.at_fault.ensures ∙ c.if-at_fault.true, c.loop-k.invariant)
 
 pub loop-k-preserved : goal.loop-k-preserved
-loop-k-preserved c = below_more _ _ c.loop-k.invariant (sym c.at_fault.ensures ∙ c.if-at-fault.false)
+loop-k-preserved c = below_more _ _ c.loop-k.invariant (sym c.at_fault.ensures ∙ c.if-at_fault.false)
 
 pub returns : goal.returns
 returns c = λ k h. c.loop-k.invariant k (omega arith)
