@@ -13,7 +13,7 @@ use Rattle.onboard.proofs.Entering.{fit_of, goes_on, ticked_says}
 use Rattle.onboard.proofs.tick.Goals as goal
 
 pub tick-satellite-requires : goal.tick-satellite-requires
-tick-satellite-requires c = (search rules, subst Fit (sym c.satellite.ensures) (fit_of c.read.new.words c.in-default-fault.ensures))
+tick-satellite-requires c = (search rules, subst Fit (sym c.satellite.ensures) (fit_of c.read.new.words c.in_default-fault.ensures))
 
 pub returns-in-Some : goal.returns-in-Some
 returns-in-Some c =
@@ -23,7 +23,7 @@ returns-in-Some c =
     let t = c.args.report.now in
     let d = Refused (Length c.in-Some.lent) in
     let says : Says d m r f t m t = (sym c.wrong_length.ensures ∙ c.in-Some.is, refl, refl) in
-    record { says = says; flies = goes_on d m r f t m t (λ k. let h = c.type-inv.readings k in omega arith) says }
+    record { says = says; flies = goes_on d m r f t m t (λ k. let h = c.type_inv.readings k in omega arith) says }
 
 pub returns-in-Some-fault : goal.returns-in-Some-fault
 returns-in-Some-fault c =
@@ -34,8 +34,8 @@ returns-in-Some-fault c =
     let d = Refused (Unfit c.in-Some-fault.word) in
     let e : c.read.new.words ≡ voted_words word_count m = c.read.ensures ∙ ap (voted_words word_count) c.new.ensures in
     let says : Says d m r f t m t =
-    (sym c.wrong_length.ensures ∙ c.in-default.is, subst (λ (ws : List ℕ). Lowest ws (Some c.in-Some-fault.word)) e c.in-Some-fault.ensures, refl, refl) in
-    record { says = says; flies = goes_on d m r f t m t (λ k. let h = c.type-inv.readings k in omega arith) says }
+    (sym c.wrong_length.ensures ∙ c.in_default.is, subst (λ (ws : List ℕ). Lowest ws (Some c.in-Some-fault.word)) e c.in-Some-fault.ensures, refl, refl) in
+    record { says = says; flies = goes_on d m r f t m t (λ k. let h = c.type_inv.readings k in omega arith) says }
 
 pub returns : goal.returns
 returns c =
@@ -44,11 +44,11 @@ returns c =
     let f = c.args.frame.now in
     let t = c.args.report.now in
     let m₁ = c.store.new.memory in
-    let t₁ = c.copy-from-slice.new.self in
+    let t₁ = c.copy_from_slice.new.self in
     let s = model c.tick-satellite.result in
     let says : Says Ticked m r f t m₁ t₁ =
-    ticked_says m r f t m₁ t₁ c.read.new.words s (sym c.wrong_length.ensures ∙ c.in-default.is)
-    (c.read.ensures ∙ ap (voted_words word_count) c.new.ensures) c.in-default-fault.ensures
+    ticked_says m r f t m₁ t₁ c.read.new.words s (sym c.wrong_length.ensures ∙ c.in_default.is)
+    (c.read.ensures ∙ ap (voted_words word_count) c.new.ensures) c.in_default-fault.ensures
     (c.tick-satellite.ensures ∙ ap (ticked (record { readings = r; frame = f })) c.satellite.ensures)
-    (c.store.ensures ∙ ap thrice c.words.ensures) (c.copy-from-slice.ensures.after ∙ c.numbers.ensures.value ∙ ap numbers_of c.of.ensures) in
-    record { says = says; flies = goes_on Ticked m r f t m₁ t₁ (λ k. let h = c.type-inv.readings k in omega arith) says }
+    (c.store.ensures ∙ ap thrice c.words.ensures) (c.copy_from_slice.ensures.after ∙ c.numbers.ensures.value ∙ ap numbers_of c.of.ensures) in
+    record { says = says; flies = goes_on Ticked m r f t m₁ t₁ (λ k. let h = c.type_inv.readings k in omega arith) says }
