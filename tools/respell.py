@@ -125,6 +125,16 @@ def main():
     return names
 
 
+def types_of_the_first_script():
+    """port.py writes a type that shares its letters with a library's word with _ inside: bring it to camel case."""
+    for p in list(files()) + sorted(glob.glob("crates/*/src/*.rt")):
+        text = open(p, encoding="utf-8").read()
+        new = re.sub(r"\bGoes_on\b", "GoesOn", text)
+        if new != text:
+            open(p, "w", encoding="utf-8").write(new)
+
+
 if __name__ == "__main__":
     main()
+    types_of_the_first_script()
     sys.exit(0)

@@ -3,7 +3,7 @@ use Rattle.std.specs.Prelude.{◌≡◌, ℕ, ◌+◌, ◌*◌, List, Ok, Err, R
 use Rattle.onboard.specs.declared.Refusal.{Refusal}
 use Rattle.onboard.specs.declared.Done.{Done}
 use Rattle.onboard.specs.declared.Done.TheVariants.{Ticked, Refused}
-use Rattle.onboard.specs.Entry.{refusal_number, refusal_place, Says, Goes_on, Launches}
+use Rattle.onboard.specs.Entry.{refusal_number, refusal_place, Says, GoesOn, Launches}
 
 -- the number of the refusal times 2^32, and its place
 abbrev pub refusal_answer : Refusal → ℕ
@@ -20,7 +20,7 @@ launch_answer (Err e) = refusal_answer e
 
 -- the answer is that of some `Done` of which the entry's contract holds
 abbrev pub AnswersTick : ℕ → (memory readings frame report memory₁ report₁ : List ℕ) → Type 0
-AnswersTick n m r f t m₁ t₁ = (d : Done) × ((n ≡ tick_answer d) × Says d m r f t m₁ t₁ × Goes_on d m r f t m₁ t₁)
+AnswersTick n m r f t m₁ t₁ = (d : Done) × ((n ≡ tick_answer d) × Says d m r f t m₁ t₁ × GoesOn d m r f t m₁ t₁)
 
 abbrev pub AnswersLaunch : ℕ → (memory memory₁ : List ℕ) → Type 0
 AnswersLaunch n m m₁ = (d : Result (Unit {0}) Refusal) × ((n ≡ launch_answer d) × Launches d m m₁)

@@ -6,7 +6,7 @@ use Rattle.layout.specs.Map.{word_count}
 use Rattle.text.specs.declared.event.Event.{Event}
 use Rattle.onboard.specs.declared.Done.{Done}
 use Rattle.onboard.specs.declared.Done.TheVariants.{Ticked, Refused}
-use Rattle.onboard.specs.Entry.{Says, Goes_on}
+use Rattle.onboard.specs.Entry.{Says, GoesOn}
 use Rattle.flight.specs.Flight.{Flew}
 use Rattle.mission.specs.declared.aloft.Aloft.{Aloft}
 use Rattle.mission.specs.declared.aloft.Output.{Output}
@@ -42,7 +42,7 @@ pub record Calls (a : Aloft) (done : Done) (memory report : List ℕ) : Type 0 w
   pub readings : length a.readings ≡ 16
   pub frame : (length (heard_of a.frame) ≡ 0) ⊎ (length (heard_of a.frame) ≡ 12)
   pub says : Says done a.memory a.readings (heard_of a.frame) (replicate 8 0) memory report
-  pub flies : Goes_on done a.memory a.readings (heard_of a.frame) (replicate 8 0) memory report
+  pub flies : GoesOn done a.memory a.readings (heard_of a.frame) (replicate 8 0) memory report
 
 -- a tick is such a call, after which nothing is said of the next tick yet
 pub record Ticks (a b : Aloft) (o : Output) : Type 0 where

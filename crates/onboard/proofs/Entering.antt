@@ -27,7 +27,7 @@ use Rattle.onboard.specs.declared.Refusal.{Refusal}
 use Rattle.onboard.specs.declared.Refusal.TheVariants.{Length, Unfit}
 use Rattle.onboard.specs.declared.Done.{Done}
 use Rattle.onboard.specs.declared.Done.TheVariants.{Ticked, Refused}
-use Rattle.onboard.specs.Entry.{wrong_length, tick_of, Says, Goes_on}
+use Rattle.onboard.specs.Entry.{wrong_length, tick_of, Says, GoesOn}
 
 -- memory without fault says a state that can tick
 rule_fit : (ws : List ℕ) (k : ℕ) → Sane ws → k < 16 → RuleFit (rule_at ws k)
@@ -81,7 +81,7 @@ right_lengths m r f t em er ef et =
     cond-true (eqb m (3 * word_count)) _ (Some Memory) (eq-eqb m (3 * word_count) em)
     ∙ cond-true (eqb r 16) _ (Some Readings) (eq-eqb r 16 er) ∙ cond-true (eqb f 0 || eqb f 12) _ (Some Frame) a ∙ cond-true (eqb t 8) None (Some Report) (eq-eqb t 8 et)
 
-pub goes_on : (d : Done) (m r f t m₁ t₁ : List ℕ) → ((k : ℕ) → get_or r k 0 ≤ 65535) → Says d m r f t m₁ t₁ → Goes_on d m r f t m₁ t₁
+pub goes_on : (d : Done) (m r f t m₁ t₁ : List ℕ) → ((k : ℕ) → get_or r k 0 ≤ 65535) → Says d m r f t m₁ t₁ → GoesOn d m r f t m₁ t₁
 goes_on Ticked m r f t m₁ t₁ small says is kept flown upset short lr lf lt =
     let i : Inputs = record { readings = r; frame = f } in
     let next = carries_on i is kept m flown upset (record { readings = lr; small = small; frame = lf }) in

@@ -56,8 +56,8 @@ Says (Refused (Unfit word)) m r f t m₁ t₁ =
 
 -- from every flight of fewer than 2^62 ticks, and every tolerated upset, that led to the lent memory: the call ticks, its memory goes on with that flight,
 -- and its report is the story's
-abbrev pub Goes_on : Done → (memory readings frame report memory₁ report₁ : List ℕ) → Type 0
-Goes_on d m r f t m₁ t₁ =
+abbrev pub GoesOn : Done → (memory readings frame report memory₁ report₁ : List ℕ) → Type 0
+GoesOn d m r f t m₁ t₁ =
     (is : List Inputs) (kept : List ℕ) → Flew is kept → (threefold word_count).Upset kept m → length is < most →
     length r ≡ 16 → (length f ≡ 0) ⊎ (length f ≡ 12) → length t ≡ 8 →
     (d ≡ Ticked) × Flew (record { readings = r; frame = f } ∷ is) m₁ × (t₁ ≡ numbers_of (report_of (after (record { readings = r; frame = f } ∷ is))))

@@ -4,7 +4,7 @@
 
 ghost use Rattle.std.specs.Prelude.{◌≡◌, ℕ, List};
 ghost use Rattle.telemetry.specs.Reports.{report_of, numbers_of};
-ghost use Rattle.onboard.specs.Entry.{lent_place, refusal_number, refusal_place, wrong_length, Says, Goes_on, Launches};
+ghost use Rattle.onboard.specs.Entry.{lent_place, refusal_number, refusal_place, wrong_length, Says, GoesOn, Launches};
 
 use layout::{WORDS, fault};
 use memory::{Copies, store};
@@ -73,7 +73,7 @@ pub fn launch(memory: &mut [u64]) -> Result<(), Refusal>
 /// One tick: votes on the memory, does what the tick does, writes all of it back three times, and reports.
 pub fn tick(memory: &mut [u64], readings: &[u16], frame: &[u64], report: &mut [u64]) -> Done
     ensures says { Says result memory.old readings.now frame.now report.old memory.new report.new }
-    ensures flies { Goes_on result memory.old readings.now frame.now report.old memory.new report.new }
+    ensures flies { GoesOn result memory.old readings.now frame.now report.old memory.new report.new }
 {
     if let Some(lent) = wrong_length(memory.len(), readings.len(), frame.len(), report.len()) {
         return Done::Refused(Refusal::Length(lent));

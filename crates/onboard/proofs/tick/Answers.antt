@@ -13,7 +13,7 @@ use Rattle.onboard.proofs.Entering.{fit_of, goes_on, ticked_says}
 use Rattle.onboard.proofs.tick.Goals as goal
 
 pub tick-satellite-requires : goal.tick-satellite-requires
-tick-satellite-requires c = (search rules, subst Fit (sym c.satellite.ensures) (fit_of c.read.new.words c.in_default-fault.ensures))
+tick-satellite-requires c = record { sixteen = search rules; fit = subst Fit (sym c.satellite.ensures) (fit_of c.read.new.words c.in_default-fault.ensures) }
 
 pub returns-in-Some : goal.returns-in-Some
 returns-in-Some c =
