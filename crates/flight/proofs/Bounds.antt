@@ -1,21 +1,21 @@
 -- How large what the satellite holds can be after so many ticks.
-use Rattle.std.proofs.Common.{◌≡◌, ℕ, zero, suc, ◌+◌, ◌<◌, ◌≤◌, Bool, true, false, cond, List, [], ◌∷◌, ◌++◌, length, get_or, set, replicate, sym, refl, ap, ◌∙◌, subst, ⊎_elim, arith, length-append}
+use Rattle.std.proofs.Common.{◌≡◌, ℕ, zero, suc, ◌+◌, ◌<◌, ◌≤◌, cond, List, [], ◌∷◌, length, get_or, set, replicate, sym, ap, subst, ⊎_elim, arith, length-append}
 use Rattle.std.proofs.lemmas.Bool.{cases_lt, cases_eq, cond_both}
 use Rattle.std.proofs.lemmas.List.{get_or-set_other}
 use Rattle.schedule.specs.declared.activity.Activity.{Activity}
-use Rattle.schedule.specs.Waiting.{due, still_waiting, put_all}
+use Rattle.schedule.specs.Waiting.{due, put_all}
 use Rattle.rules.specs.declared.rule.Rule.{Rule}
 use Rattle.rules.specs.Watching.{off, is_past}
 use Rattle.frame.specs.declared.Command.{Command}
 use Rattle.frame.specs.declared.Command.TheVariants.{Put, Later, Forget, Sleep, Wake, SetRule, Unknown}
 use Rattle.frame.specs.declared.Telecommand.{Telecommand}
 use Rattle.satellite.specs.State.{State, parameter, rule, count, at_launch}
-use Rattle.satellite.specs.Story.{Inputs, begun, looked, watched_one, watched, done, rejecting, expecting_next, obeyed, at_release, at_reception}
+use Rattle.satellite.specs.Story.{Inputs, begun, looked, watched_one, watched, done, expecting_next, obeyed, at_release, at_reception}
 use Rattle.satellite.proofs.Watching.{one_rules, watched_rules, count_before}
-use Rattle.flight.specs.Machine.{AllLawful, none, more}
+use Rattle.flight.specs.Machine.{AllLawful, more}
 use Rattle.flight.specs.Flight.{Lawful, machine, after}
-use Rattle.flight.specs.Scheduling.{Among, here, there}
-use Rattle.flight.proofs.Steps.{obeyed_cases, ticked_cases, one_cases, watched_zero, watched_suc, begun_low, begun_high, release_is, Reception, reception}
+use Rattle.flight.specs.Scheduling.{Among}
+use Rattle.flight.proofs.Steps.{obeyed_cases, ticked_cases, one_cases, watched_zero, watched_suc, begun_low, begun_high, release_is, reception}
 use Rattle.flight.proofs.Waits.{among_append, parts, among_due, among_still, parts_length, put_both, set_both}
 use Rattle.flight.proofs.Received.{Small, SmallRule, SmallActivity, SmallCommand, decoded_small}
 

@@ -1,14 +1,14 @@
 -- Commands obeyed are the first ones sent, each once, in order.
-use Rattle.std.proofs.Common.{◌≡◌, ℕ, zero, suc, Bool, true, false, cond, eqb, List, [], ◌∷◌, Some, None, Option, sym, refl, ap, ◌∙◌, subst}
+use Rattle.std.proofs.Common.{◌≡◌, ℕ, suc, true, eqb, List, [], ◌∷◌, Some, Option, sym, refl, ap, ◌∙◌}
 use Rattle.std.proofs.lemmas.Bool.{eq-eqb, ne_eqb, cond-true, cond-false, true≢false}
 use Rattle.frame.specs.declared.Command.{Command}
 use Rattle.frame.specs.declared.Command.TheVariants.{Put, Later, Forget, Sleep, Wake, SetRule, Unknown}
 use Rattle.frame.specs.declared.Telecommand.{Telecommand}
 use Rattle.satellite.specs.State.{State}
-use Rattle.satellite.specs.Story.{Inputs, can, done, obeyed, received, heeded, at_reception, ticked}
+use Rattle.satellite.specs.Story.{Inputs, done, obeyed, at_reception}
 use Rattle.flight.specs.Flight.{after}
-use Rattle.flight.specs.Commanding.{heard, Turn, FromGround, obeyed_with, obeyed_in, first_sent, EachOnce, ComesThrough, SafeAtOnce}
-use Rattle.flight.proofs.Steps.{obeyed_cases, ticked_cases, ticked_heard, Reception, reception}
+use Rattle.flight.specs.Commanding.{heard, obeyed_with, obeyed_in, first_sent, EachOnce, ComesThrough, SafeAtOnce}
+use Rattle.flight.proofs.Steps.{obeyed_cases, ticked_cases, ticked_heard, reception}
 
 -- until reception the same command is expected
 pub expected_kept : (i : Inputs) (s : State) → (at_reception i s).expected ≡ s.expected

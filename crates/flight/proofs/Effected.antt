@@ -1,8 +1,7 @@
 -- What a command changes, and that nothing else changes.
-use Rattle.std.proofs.Common.{◌≡◌, ℕ, zero, suc, ◌+◌, ◌<◌, ◌≤◌, Bool, true, false, cond, not, ◌&&◌, ◌||◌, eqb, ltb, leb, ◌⊎◌, List, [], ◌∷◌, ◌++◌, length, get_or, set, replicate, Some, None, Option, sym, refl, ap, ◌∙◌, subst, ⊎_elim, add-zero, add-one, arith}
+use Rattle.std.proofs.Common.{◌≡◌, ℕ, zero, suc, ◌+◌, ◌<◌, ◌≤◌, true, false, not, ◌&&◌, ◌||◌, eqb, ltb, leb, ◌⊎◌, List, [], ◌∷◌, length, get_or, replicate, Some, None, Option, sym, refl, ap, ◌∙◌, subst, ⊎_elim, add-zero, add-one, arith}
 use Rattle.std.proofs.lemmas.Bool.{eq-eqb, ne_eqb, le-leb, lt-leb, leb-true, lt-ltb, le-ltb, and_from, and_left, and_right, and_parts, or_left, or_right, or_from, not_from_true, not_from_false, cond-true, cond-false, cond_both, true≢false}
 use Rattle.std.proofs.lemmas.List.{get_or-set_other}
-use Rattle.schedule.specs.declared.activity.Activity.{Activity}
 use Rattle.schedule.specs.Waiting.{due, put_all}
 use Rattle.rules.specs.declared.rule.Rule.{Rule}
 use Rattle.rules.specs.Watching.{off, acts, may_set}
@@ -10,18 +9,15 @@ use Rattle.frame.specs.declared.Command.{Command}
 use Rattle.frame.specs.declared.Command.TheVariants.{Put, Later, Forget, Sleep, Wake, SetRule, Unknown}
 use Rattle.frame.specs.declared.Telecommand.{Telecommand}
 use Rattle.parameters.specs.Places.{may_put}
-use Rattle.satellite.specs.State.{State, with_expected, parameter, rule, count}
-use Rattle.satellite.specs.Story.{Inputs, begun, looked, watched_one, watched, can, done, rejecting, expecting_next, obeyed, received, at_release, at_reception}
+use Rattle.satellite.specs.State.{State, with_expected, parameter, rule}
+use Rattle.satellite.specs.Story.{Inputs, begun, looked, watched_one, watched, can, done, rejecting, at_release, at_reception}
 use Rattle.satellite.proofs.Watching.{watched_rules}
-use Rattle.layout.specs.Map.{Sized}
-use Rattle.flight.specs.Machine.{AllLawful}
-use Rattle.flight.specs.Flight.{Lawful, machine, after}
+use Rattle.flight.specs.Flight.{Lawful, after}
 use Rattle.flight.specs.Commanding.{heard, Turn}
-use Rattle.flight.specs.Effects.{before_command, next_expected, Place, CommandsAct, Undoable, put_low, put_high, later_low, later_high, later_past, later_full, rule_none, rule_blind, rule_low, rule_high, no_kind, ElseIgnored, ReadsRight, KeepsSizes, TimeRight, turned_down, rejections, RejectedRight, LaunchesRight}
-use Rattle.flight.specs.Scheduling.{Among}
-use Rattle.flight.proofs.Steps.{obeyed_cases, ticked_cases, ticked_heard, one_cases, watched_zero, watched_suc, begun_low, release_is, Reception, reception}
+use Rattle.flight.specs.Effects.{before_command, Place, CommandsAct, Undoable, put_low, put_high, later_low, later_high, later_past, later_full, rule_none, rule_blind, rule_low, rule_high, no_kind, ElseIgnored, ReadsRight, KeepsSizes, TimeRight, turned_down, rejections, RejectedRight, LaunchesRight}
+use Rattle.flight.proofs.Steps.{obeyed_cases, ticked_cases, ticked_heard, one_cases, watched_zero, watched_suc, begun_low, release_is, reception}
 use Rattle.flight.proofs.Waits.{parts, among_due, put_other}
-use Rattle.flight.proofs.Sound.{may_place, RuleOk, RulesSound, WaitsSound, Sound, after_sound, after_sized}
+use Rattle.flight.proofs.Sound.{may_place, RuleOk, RulesSound, Sound, after_sound, after_sized}
 use Rattle.flight.proofs.Fitting.{place_may}
 use Rattle.flight.proofs.Commanded.{expected_kept, done_expected, obeyed_else}
 

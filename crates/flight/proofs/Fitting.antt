@@ -1,24 +1,22 @@
 -- What a flight leaves is not refused.
-use Rattle.std.proofs.Common.{◌≡◌, ℕ, zero, suc, ◌+◌, ◌-◌, ◌*◌, ◌/◌, ◌%◌, ◌<◌, ◌≤◌, Bool, true, false, cond, eqb, leb, ◌⊎◌, List, [], ◌∷◌, ◌++◌, length, get_or, sym, refl, ap, ◌∙◌, subst, inl, inr, ⊎_elim, arith}
-use Rattle.std.proofs.lemmas.Bool.{le-leb, and_from, cases_lt, cases_eq}
+use Rattle.std.proofs.Common.{◌≡◌, ℕ, zero, suc, ◌+◌, ◌-◌, ◌*◌, ◌/◌, ◌%◌, ◌<◌, ◌≤◌, Bool, true, false, eqb, leb, List, length, get_or, sym, refl, ap, ◌∙◌, subst, inl, inr, ⊎_elim, arith}
+use Rattle.std.proofs.lemmas.Bool.{le-leb, and_from, cases_lt}
 use Rattle.memory.specs.Threefold.{voted_words, threefold}
 use Rattle.memory.proofs.Mending.{votes_mend}
 use Rattle.schedule.specs.declared.activity.Activity.{Activity}
 use Rattle.schedule.specs.Waiting.{no_activity}
 use Rattle.rules.specs.declared.rule.Rule.{Rule}
 use Rattle.parameters.specs.Places.{may_put}
-use Rattle.satellite.specs.State.{State, parameter, rule, count}
-use Rattle.satellite.specs.Story.{Inputs}
+use Rattle.satellite.specs.State.{State, rule}
 use Rattle.satellite.specs.Fit.{most}
 use Rattle.layout.specs.Map.{word_count, bit, activity_words, rule_words, words_of, Sized}
 use Rattle.layout.specs.Fault.{Faultless, Sane}
 use Rattle.layout.proofs.Places.{head_word, parameter_word, waiting_word, activity_word, nought_word, rule_word, count_word}
 use Rattle.layout.proofs.Sanity.{faultless_of}
-use Rattle.flight.specs.Flight.{machine, after, Flew, NeverRefused}
+use Rattle.flight.specs.Flight.{machine, after, NeverRefused}
 use Rattle.flight.specs.Effects.{Place}
-use Rattle.flight.specs.Scheduling.{Among}
 use Rattle.flight.proofs.Waits.{among_at}
-use Rattle.flight.proofs.Sound.{RuleOk, WaitsSound, Sound, after_sound, after_sized}
+use Rattle.flight.proofs.Sound.{Sound, after_sound, after_sized}
 use Rattle.flight.proofs.Received.{Small, SmallRule, SmallActivity}
 use Rattle.flight.proofs.Bounds.{Bounded, after_bounded}
 use Rattle.flight.proofs.Flying.{all_lawful, flies_right}

@@ -1,5 +1,5 @@
 -- Every flight of every machine over every keeper that mends, and then the satellite's.
-use Rattle.std.proofs.Common.{◌≡◌, ℕ, List, [], ◌∷◌, length, sym, refl, ap, ◌∙◌, subst}
+use Rattle.std.proofs.Common.{◌≡◌, List, ◌∷◌, length, sym, refl, ap, ◌∙◌, subst}
 use Rattle.memory.specs.Keeper.{Keeper, Mends}
 use Rattle.memory.specs.Threefold.{voted_words, thrice, Holds, threefold}
 use Rattle.memory.proofs.Mending.{votes_mend}
@@ -7,8 +7,8 @@ use Rattle.layout.specs.Map.{word_count, words_of, state_of}
 use Rattle.layout.proofs.Back.{reads_back}
 use Rattle.satellite.specs.Story.{Inputs}
 use Rattle.satellite.specs.Story as satellite
-use Rattle.flight.specs.Machine.{Machine, story, AllLawful, none, more, Returns, Flown, launched, ticked, Flies, AlwaysFlies}
-use Rattle.flight.specs.Flight.{Lawful, machine, after, Flew, FliesRight, CarriesOn}
+use Rattle.flight.specs.Machine.{Machine, story, AllLawful, none, more, Returns, Flown, launched, ticked, AlwaysFlies}
+use Rattle.flight.specs.Flight.{machine, after, FliesRight, CarriesOn}
 use Rattle.flight.proofs.Sound.{after_sized}
 
 pub all_lawful : (K : Keeper) (M : Machine) (is : List M.Input) (kept : K.Memory) → Flown K M is kept → AllLawful M is

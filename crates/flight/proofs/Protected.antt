@@ -1,23 +1,21 @@
 -- Rules count what they should, act in the tick in which they should, and do nothing else.
-use Rattle.std.proofs.Common.{◌≡◌, ℕ, zero, suc, ◌+◌, ◌<◌, ◌≤◌, Bool, true, false, cond, ◌&&◌, eqb, leb, ◌⊎◌, List, [], ◌∷◌, ◌++◌, length, get_or, set, Some, None, Option, sym, refl, ap, ◌∙◌, subst, inl, inr, ⊎_elim, arith}
-use Rattle.std.proofs.lemmas.Bool.{eq-eqb, eqb-true, le-leb, lt-leb, leb-true, leb-false, and_parts, and_from, cases_eq, cases_Bool, cond-true, cond-false, true≢false}
+use Rattle.std.proofs.Common.{◌≡◌, ℕ, zero, suc, ◌<◌, ◌≤◌, true, false, cond, eqb, leb, ◌⊎◌, List, [], ◌∷◌, ◌++◌, length, get_or, set, Some, sym, refl, ap, ◌∙◌, subst, inl, inr, ⊎_elim, arith}
+use Rattle.std.proofs.lemmas.Bool.{eq-eqb, eqb-true, le-leb, lt-leb, leb-true, and_parts, and_from, cases_eq, cases_Bool, cond-true, cond-false, true≢false}
 use Rattle.std.proofs.lemmas.List.{get_or-set_same, get_or-set_other}
 use Rattle.rules.specs.declared.rule.Rule.{Rule}
 use Rattle.rules.specs.Watching.{off, is_past, next_count, acts}
 use Rattle.frame.specs.declared.Command.{Command}
 use Rattle.frame.specs.declared.Command.TheVariants.{Put, Later, Forget, Sleep, Wake, SetRule, Unknown}
-use Rattle.frame.specs.declared.Telecommand.{Telecommand}
-use Rattle.satellite.specs.State.{State, with_safe_mode, with_parameters, parameter, rule, count}
-use Rattle.satellite.specs.Story.{Inputs, begun, looked, counted, acted, watched_one, watched, done, at_release, at_reception}
+use Rattle.satellite.specs.State.{State, parameter, rule, count}
+use Rattle.satellite.specs.Story.{Inputs, begun, looked, counted, acted, watched_one, watched, done, at_release}
 use Rattle.satellite.proofs.Watching.{one_rules, watched_rules, count_before}
 use Rattle.flight.specs.Machine.{AllLawful, more}
-use Rattle.flight.specs.Flight.{Lawful, machine, after}
-use Rattle.flight.specs.Commanding.{heard, Turn}
-use Rattle.flight.specs.Effects.{before_command, Place}
-use Rattle.flight.specs.Scheduling.{NoneDue}
-use Rattle.flight.specs.Protecting.{PastRight, at_look, seen, Unset, past_for, CountsRight, read_past_for, InstrumentsRight, BeginsAnew, Acting, ActsJustThen, SafeByRules, Putting, RulesPut, ElseUntouched}
-use Rattle.flight.proofs.Steps.{obeyed_cases, ticked_cases, one_cases, watched_zero, watched_suc, begun_low, begun_high, release_is, Reception, reception}
-use Rattle.flight.proofs.Sound.{RuleOk, Sound, after_sound, reception_sound, watched_sizes, release_sizes}
+use Rattle.flight.specs.Flight.{machine, after}
+use Rattle.flight.specs.Commanding.{Turn}
+use Rattle.flight.specs.Effects.{before_command}
+use Rattle.flight.specs.Protecting.{PastRight, at_look, seen, Unset, CountsRight, InstrumentsRight, BeginsAnew, Acting, ActsJustThen, SafeByRules, RulesPut, ElseUntouched}
+use Rattle.flight.proofs.Steps.{obeyed_cases, ticked_cases, one_cases, watched_zero, watched_suc, begun_low, begun_high, release_is, reception}
+use Rattle.flight.proofs.Sound.{RuleOk, after_sound, reception_sound, watched_sizes, release_sizes}
 use Rattle.flight.proofs.Commanded.{expected_kept}
 use Rattle.flight.proofs.Effected.{commands_act, watched_low}
 use Rattle.flight.proofs.Scheduled.{else_kept}

@@ -1,21 +1,21 @@
 -- Activities are done in their tick, or missed in safe mode, and nothing waits longer.
-use Rattle.std.proofs.Common.{◌≡◌, ℕ, suc, ◌+◌, ◌<◌, ◌≤◌, Bool, true, false, cond, ◌⊎◌, List, [], ◌∷◌, ◌++◌, length, get_or, Some, None, Option, sym, refl, ap, ◌∙◌, subst, inl, inr, ⊎_elim, arith}
+use Rattle.std.proofs.Common.{◌≡◌, ℕ, suc, ◌+◌, cond, ◌⊎◌, List, [], ◌∷◌, ◌++◌, length, get_or, Some, sym, refl, ap, ◌∙◌, subst, inl, inr, ⊎_elim, arith}
 use Rattle.std.proofs.lemmas.Bool.{cond_both, cond-true, cond-false}
 use Rattle.schedule.specs.declared.activity.Activity.{Activity}
-use Rattle.schedule.specs.Waiting.{due, still_waiting, put_all}
+use Rattle.schedule.specs.Waiting.{due, put_all}
 use Rattle.frame.specs.declared.Command.{Command}
 use Rattle.frame.specs.declared.Command.TheVariants.{Put, Later, Forget, Sleep, Wake, SetRule, Unknown}
 use Rattle.frame.specs.declared.Telecommand.{Telecommand}
 use Rattle.satellite.specs.State.{State, parameter}
-use Rattle.satellite.specs.Story.{Inputs, done, at_release, at_reception}
-use Rattle.flight.specs.Machine.{AllLawful, more}
-use Rattle.flight.specs.Flight.{Lawful, machine, after}
+use Rattle.satellite.specs.Story.{done, at_release, at_reception}
+use Rattle.flight.specs.Machine.{more}
+use Rattle.flight.specs.Flight.{after}
 use Rattle.flight.specs.Commanding.{heard, Turn}
-use Rattle.flight.specs.Effects.{before_command, Place}
-use Rattle.flight.specs.Scheduling.{Among, Parts, PartsInTick, NeverLate, KeptTillDue, NoneDue, PutWhenDue, ElseKept, MissedInSafeMode, misses, MissedRight}
-use Rattle.flight.proofs.Steps.{obeyed_cases, ticked_cases, Reception, reception}
+use Rattle.flight.specs.Effects.{before_command}
+use Rattle.flight.specs.Scheduling.{Among, Parts, PartsInTick, NeverLate, KeptTillDue, PutWhenDue, ElseKept, MissedInSafeMode, misses, MissedRight}
+use Rattle.flight.proofs.Steps.{obeyed_cases, ticked_cases, reception}
 use Rattle.flight.proofs.Waits.{parts, among_due, among_middle, put_other, put_last}
-use Rattle.flight.proofs.Sound.{WaitsSound, after_sound, release_sizes}
+use Rattle.flight.proofs.Sound.{after_sound, release_sizes}
 use Rattle.flight.proofs.Commanded.{expected_kept}
 use Rattle.flight.proofs.Effected.{done_counters}
 

@@ -1,5 +1,5 @@
 -- What holds of the satellite after every history of lawful inputs.
-use Rattle.std.proofs.Common.{◌≡◌, ℕ, zero, suc, ◌+◌, ◌<◌, ◌≤◌, Bool, true, false, cond, ◌&&◌, ◌||◌, ltb, leb, ◌⊎◌, List, [], ◌∷◌, ◌++◌, length, get_or, drop, set, replicate, sym, refl, ap, ◌∙◌, subst, inl, inr, ⊎_elim, arith, length-append, length-drop, length-set}
+use Rattle.std.proofs.Common.{◌≡◌, ℕ, zero, suc, ◌<◌, ◌≤◌, true, ◌&&◌, ◌||◌, ltb, leb, ◌⊎◌, List, [], ◌∷◌, ◌++◌, length, get_or, drop, set, replicate, sym, refl, ap, ◌∙◌, subst, inl, inr, ⊎_elim, arith, length-append, length-drop, length-set}
 use Rattle.std.proofs.lemmas.List.{get_or-set_same, get_or-set_other}
 use Rattle.std.proofs.lemmas.Bool.{and_parts, or_cases, ltb-true, leb-true, cases_eq, cond_both}
 use Rattle.schedule.specs.declared.activity.Activity.{Activity}
@@ -10,14 +10,14 @@ use Rattle.frame.specs.declared.Command.{Command}
 use Rattle.frame.specs.declared.Command.TheVariants.{Put, Later, Forget, Sleep, Wake, SetRule, Unknown}
 use Rattle.frame.specs.declared.Telecommand.{Telecommand}
 use Rattle.parameters.specs.Places.{may_put}
-use Rattle.satellite.specs.State.{State, parameter, rule, count, at_launch}
-use Rattle.satellite.specs.Story.{Inputs, begun, looked, counted, watched_one, watched, released, can, done, obeyed, at_release, at_reception}
+use Rattle.satellite.specs.State.{State, rule}
+use Rattle.satellite.specs.Story.{Inputs, begun, looked, watched_one, watched, can, done, obeyed, at_release, at_reception}
 use Rattle.layout.specs.Map.{Sized}
-use Rattle.flight.specs.Machine.{AllLawful, none, more}
+use Rattle.flight.specs.Machine.{AllLawful, more}
 use Rattle.flight.specs.Flight.{Lawful, machine, after}
 use Rattle.flight.specs.Effects.{Place}
-use Rattle.flight.specs.Scheduling.{Among, here, there}
-use Rattle.flight.proofs.Steps.{obeyed_cases, ticked_cases, one_cases, watched_zero, watched_suc, release_is, Reception, reception}
+use Rattle.flight.specs.Scheduling.{Among}
+use Rattle.flight.proofs.Steps.{obeyed_cases, ticked_cases, one_cases, watched_zero, watched_suc, release_is, reception}
 use Rattle.flight.proofs.Waits.{among_append, parts, among_still, parts_length, put_length}
 
 pub may_place : (i : ℕ) → may_put i ≡ true → Place i

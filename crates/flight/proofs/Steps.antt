@@ -1,14 +1,12 @@
 -- The cases of each step of a tick, so that no later proof looks into a step.
-use Rattle.std.proofs.Common.{◌≡◌, ℕ, suc, ◌+◌, ◌-◌, ◌<◌, ◌≤◌, Bool, true, false, cond, eqb, List, [], ◌∷◌, ◌++◌, length, get_or, drop, set, Some, None, Option, sym, refl, ap, ◌∙◌, subst, arith}
+use Rattle.std.proofs.Common.{◌≡◌, ℕ, suc, ◌+◌, ◌-◌, ◌<◌, ◌≤◌, true, false, cond, eqb, List, length, get_or, drop, set, Some, None, Option, sym, refl, ap, ◌∙◌, subst, arith}
 use Rattle.std.proofs.lemmas.Bool.{eqb-true, eqb-false, cond_both}
 use Rattle.std.proofs.lemmas.List.{get_or_append_left, get_or-append_right, get_or-drop}
 use Rattle.schedule.specs.declared.activity.Activity.{Activity}
 use Rattle.schedule.specs.Waiting.{due, still_waiting, put_all}
-use Rattle.rules.specs.declared.rule.Rule.{Rule}
 use Rattle.rules.specs.Watching.{acts}
-use Rattle.frame.specs.declared.Command.{Command}
 use Rattle.frame.specs.declared.Telecommand.{Telecommand}
-use Rattle.satellite.specs.State.{State, with_time, with_safe_mode, with_missed, with_parameters, with_schedule, with_counts, parameter, rule, count}
+use Rattle.satellite.specs.State.{State, with_time, with_safe_mode, with_parameters, with_counts, parameter, rule}
 use Rattle.satellite.specs.Story.{Inputs, begun, looked, counted, acted, watched_one, watched, released, can, done, rejecting, expecting_next, obeyed, received, heeded, at_release, at_reception, ticked}
 use Rattle.satellite.proofs.Watching.{watched_kept}
 use Rattle.flight.specs.Flight.{Lawful}

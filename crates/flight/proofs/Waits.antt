@@ -1,9 +1,9 @@
 -- Lists of activities: which are among them, how they part, and what the due ones put.
-use Rattle.std.proofs.Common.{◌≡◌, ℕ, zero, suc, ◌+◌, ◌<◌, ◌≤◌, Bool, true, false, cond, eqb, ◌⊎◌, List, [], ◌∷◌, ◌++◌, length, get_or, set, sym, refl, ap, ◌∙◌, subst, inl, inr, ⊎_elim, arith, length-append}
+use Rattle.std.proofs.Common.{◌≡◌, ℕ, zero, suc, ◌+◌, ◌<◌, Bool, true, false, cond, eqb, ◌⊎◌, List, [], ◌∷◌, ◌++◌, length, get_or, set, sym, refl, ◌∙◌, subst, inl, inr, ⊎_elim, arith}
 use Rattle.std.proofs.lemmas.List.{get_or-set_same, get_or-set_other, length-set}
-use Rattle.std.proofs.lemmas.Bool.{eqb-true, eqb-false, cond_both}
+use Rattle.std.proofs.lemmas.Bool.{eqb-true, eqb-false}
 use Rattle.schedule.specs.declared.activity.Activity.{Activity}
-use Rattle.schedule.specs.Waiting.{no_activity, due, still_waiting, put_all}
+use Rattle.schedule.specs.Waiting.{due, still_waiting, put_all}
 use Rattle.flight.specs.Scheduling.{Among, here, there, Parts, none, one_due, one_other}
 
 pub among_cons : {A : Type 0} (w v : A) (xs : List A) → Among w (v ∷ xs) → (w ≡ v) ⊎ Among w xs

@@ -3,7 +3,6 @@ use Rattle.std.specs.Prelude.{◌≡◌, ℕ, zero, suc, true, cond, List, [], �
 use Rattle.frame.specs.declared.Command.{Command}
 use Rattle.frame.specs.declared.Command.TheVariants.{Sleep}
 use Rattle.frame.specs.declared.Telecommand.{Telecommand}
-use Rattle.satellite.specs.State.{State}
 use Rattle.satellite.specs.Story.{Inputs, received, at_reception}
 use Rattle.flight.specs.Flight.{after}
 

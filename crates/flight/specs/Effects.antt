@@ -1,5 +1,5 @@
 -- What a command changes, that nothing else changes with it, and what the counters count.
-use Rattle.std.specs.Prelude.{◌≡◌, ℕ, suc, ◌+◌, ◌<◌, ◌≤◌, Bool, true, false, cond, not, ◌&&◌, ◌⊎◌, List, [], ◌∷◌, ◌++◌, length, Some, None, Option, ◌==◌, ◌≢◌, slice_index, slice_set}
+use Rattle.std.specs.Prelude.{◌≡◌, ℕ, suc, ◌+◌, ◌<◌, ◌≤◌, true, false, cond, not, ◌&&◌, ◌⊎◌, List, [], ◌∷◌, ◌++◌, length, Some, None, Option, ◌==◌, ◌≢◌, slice_index, slice_set}
 use Rattle.schedule.specs.declared.activity.Activity.{Activity}
 use Rattle.rules.specs.declared.rule.Rule.{Rule}
 use Rattle.rules.specs.Watching.{off}
@@ -7,7 +7,7 @@ use Rattle.frame.specs.declared.Command.{Command}
 use Rattle.frame.specs.declared.Command.TheVariants.{Put, Later, Forget, Sleep, Wake, SetRule, Unknown}
 use Rattle.frame.specs.declared.Telecommand.{Telecommand}
 use Rattle.satellite.specs.State.{State, with_time, with_expected, with_safe_mode, with_rejected, with_missed, with_parameters, with_schedule, with_rules, with_counts, parameter, rule, count}
-use Rattle.satellite.specs.Story.{Inputs, can, received, at_reception}
+use Rattle.satellite.specs.Story.{Inputs, can, at_reception}
 use Rattle.flight.specs.Flight.{Lawful, machine, after}
 use Rattle.flight.specs.Machine.{AllLawful}
 use Rattle.flight.specs.Commanding.{heard, Turn}

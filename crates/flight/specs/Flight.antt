@@ -1,5 +1,5 @@
 -- Flights of the satellite.
-use Rattle.std.specs.Prelude.{◌≡◌, ℕ, ◌<◌, ◌≤◌, ◌⊎◌, List, [], ◌∷◌, length, slice_index}
+use Rattle.std.specs.Prelude.{◌≡◌, ℕ, ◌<◌, ◌≤◌, ◌⊎◌, List, ◌∷◌, length, slice_index}
 use Rattle.memory.specs.Threefold.{voted_words, thrice, threefold}
 use Rattle.satellite.specs.State.{State, at_launch}
 use Rattle.satellite.specs.Story.{Inputs, at_reception}

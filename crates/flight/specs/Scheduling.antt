@@ -1,10 +1,10 @@
 -- Activities are done in their tick, or missed in safe mode, and nothing waits longer.
-use Rattle.std.specs.Prelude.{◌≡◌, ℕ, suc, ◌+◌, ◌<◌, ◌≤◌, Bool, true, false, cond, ◌⊎◌, List, [], ◌∷◌, ◌++◌, length, ◌≢◌}
+use Rattle.std.specs.Prelude.{◌≡◌, ℕ, suc, ◌+◌, ◌<◌, true, false, cond, ◌⊎◌, List, [], ◌∷◌, ◌++◌, length, ◌≢◌}
 use Rattle.schedule.specs.declared.activity.Activity.{Activity}
-use Rattle.schedule.specs.Waiting.{due, still_waiting}
+use Rattle.schedule.specs.Waiting.{due}
 use Rattle.frame.specs.declared.Command.TheVariants.{Later, Forget}
-use Rattle.satellite.specs.State.{State, parameter}
-use Rattle.satellite.specs.Story.{Inputs, released, at_release, at_reception}
+use Rattle.satellite.specs.State.{parameter}
+use Rattle.satellite.specs.Story.{Inputs, at_release}
 use Rattle.flight.specs.Machine.{AllLawful}
 use Rattle.flight.specs.Flight.{machine, after}
 use Rattle.flight.specs.Commanding.{Turn}

@@ -3,9 +3,7 @@ use Rattle.std.proofs.Common.{◌≡◌, ℕ, ◌+◌, ◌-◌, ◌*◌, ◌<◌
 use lib.ListN.{length-replicate}
 use Rattle.std.specs.List.{flat_map}
 use Rattle.std.proofs.lemmas.List.{append_assoc, get_or_append_left, get_or-append_right, get_or_at, take_at, take_all, drop_at, get_or-replicate}
-use Rattle.schedule.specs.declared.activity.Activity.{Activity}
 use Rattle.schedule.specs.Waiting.{no_activity}
-use Rattle.rules.specs.declared.rule.Rule.{Rule}
 use Rattle.rules.specs.Watching.{off}
 use Rattle.satellite.specs.State.{State, parameter, rule, count}
 use Rattle.layout.specs.Map.{head_words, activity_words, rule_words, schedule_words, words_of, Sized}

@@ -1,11 +1,10 @@
 -- Words without fault are those that the map allows.
-use Rattle.std.proofs.Common.{◌≡◌, ℕ, ◌+◌, ◌-◌, ◌*◌, ◌/◌, ◌%◌, ◌<◌, ◌≤◌, Bool, true, false, cond, not, ◌&&◌, eqb, ltb, leb, ◌⊎◌, List, get_or, sym, refl, ap, ◌∙◌, inl, inr, ⊎_elim, arith}
+use Rattle.std.proofs.Common.{◌≡◌, ℕ, ◌+◌, ◌-◌, ◌*◌, ◌/◌, ◌%◌, ◌<◌, ◌≤◌, Bool, true, false, cond, not, ◌&&◌, eqb, ltb, leb, ◌⊎◌, List, get_or, sym, refl, ◌∙◌, ⊎_elim, arith}
 use Rattle.std.proofs.lemmas.Bool.Decides.{nat_tests}
 use Rattle.std.proofs.lemmas.Bool.{lt-ltb, le-ltb, ltb-false, leb-false, ne_eqb, cases_lt, cases_eq, and_left, and_right}
 use Rattle.parameters.specs.Places.{may_put}
 use Rattle.satellite.specs.Fit.{most}
-use Rattle.layout.specs.Map.{word_count}
-use Rattle.layout.specs.Fault.{activity_fault, rule_fault, at_fault, Faultless, Sane, FaultsRight}
+use Rattle.layout.specs.Fault.{at_fault, Faultless, Sane, FaultsRight}
 
 -- a word at its place in an activity or a rule
 activity_place : (ws : List ℕ) (k i j : ℕ) → j < 3 → k ≡ 70 + 3 * i + j → i < 32

@@ -1,7 +1,7 @@
 -- Things that take m words each, one after the other.
-use Rattle.std.proofs.Common.{◌≡◌, ℕ, zero, suc, ◌+◌, ◌-◌, ◌*◌, ◌<◌, ◌≤◌, List, [], ◌∷◌, ◌++◌, length, get_or, take, drop, sym, refl, ap, ◌∙◌, mul-zero, mul-suc, add-one, arith, length-append}
+use Rattle.std.proofs.Common.{◌≡◌, ℕ, zero, suc, ◌+◌, ◌-◌, ◌*◌, ◌<◌, ◌≤◌, List, [], ◌∷◌, ◌++◌, length, get_or, take, drop, sym, ap, ◌∙◌, mul-zero, mul-suc, add-one, arith, length-append}
 use Rattle.std.specs.List.{flat_map}
-use Rattle.std.proofs.lemmas.List.{append_assoc, get_or_append_left, get_or-append_right, length-take-le, take-append-le, drop-append-le, take_at, drop-drop, drop_at, flat_map_more}
+use Rattle.std.proofs.lemmas.List.{append_assoc, get_or_append_left, get_or-append_right, length-take-le, take_at, drop-drop, drop_at, flat_map_more}
 
 pub length_joined : {A : Type 0} (m : ℕ) (f : A → List ℕ) → ((a : A) → length (f a) ≡ m) → (xs : List A) → length (flat_map f xs) ≡ m * length xs
 length_joined m f each [] = sym (mul-zero m)

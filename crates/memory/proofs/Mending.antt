@@ -1,11 +1,9 @@
 -- What is read of a memory that held words three times and was upset in one copy of each at most.
-use Rattle.std.proofs.Common.{◌≡◌, ℕ, zero, suc, ◌+◌, ◌-◌, ◌*◌, ◌<◌, ◌≤◌, Bool, true, false, cond, eqb, ◌≢◌, ◌⊎◌, List, ◌++◌, map, length, get_or, set, sym, refl, ap, ◌∙◌, inl, inr, ⊎_elim, arith}
-use Rattle.std.specs.List.{range_with_len}
+use Rattle.std.proofs.Common.{◌≡◌, ℕ, zero, suc, ◌+◌, ◌-◌, ◌*◌, ◌<◌, cond, eqb, ◌≢◌, ◌⊎◌, List, ◌++◌, length, get_or, set, sym, refl, ap, ◌∙◌, inl, inr, ⊎_elim, arith}
 use Rattle.std.proofs.lemmas.List.FromFn.{fill_by_all}
 use Rattle.std.proofs.lemmas.List.{get_or_append_left, get_or-append_right, get_or-set_other, length-set}
 use Rattle.std.proofs.lemmas.Bool.{cases_eq, eq-eqb, cond_both, eqb-true}
-use Rattle.memory.specs.Keeper.{Keeper, Mends}
-use Rattle.memory.specs.Threefold.{copy, majority, voted, voted_words, thrice, Holds, Spared, Upset, threefold, VotesMend, UpsetsHappen}
+use Rattle.memory.specs.Threefold.{copy, majority, voted, voted_words, thrice, Holds, Spared, Upset, VotesMend, UpsetsHappen}
 
 pub voted_at : (n k : ℕ) (m : List ℕ) → majority (get_or m k 0) (get_or m (n + k) 0) (get_or m (2 * n + k) 0) ≡ voted n m k
 unfolding voted

@@ -1,5 +1,5 @@
 -- Words kept three times, copy after copy: n words are 3 * n numbers, and copy c of word k is number c * n + k.
-use Rattle.std.specs.Prelude.{◌≡◌, ℕ, ◌+◌, ◌*◌, ◌<◌, ◌≤◌, cond, ◌⊎◌, List, ◌++◌, map, length, ◌==◌, slice_index, slice_set}
+use Rattle.std.specs.Prelude.{◌≡◌, ℕ, ◌+◌, ◌*◌, ◌<◌, cond, ◌⊎◌, List, ◌++◌, map, length, ◌==◌, slice_index, slice_set}
 use Rattle.std.specs.List.{range_with_len}
 use Rattle.memory.specs.Keeper.{Keeper, Mends}
 

@@ -1,5 +1,5 @@
 -- A call that does what the entry says goes on with the flight.
-use Rattle.std.proofs.Common.{◌≡◌, ℕ, ◌+◌, ◌*◌, ◌<◌, ◌≤◌, Bool, true, false, cond, ◌||◌, eqb, leb, ◌⊎◌, List, [], ◌∷◌, ◌++◌, map, length, get_or, drop, Some, None, Option, sym, refl, ap, ◌∙◌, subst, ⊎_elim, arith, length-append}
+use Rattle.std.proofs.Common.{◌≡◌, ℕ, ◌+◌, ◌*◌, ◌<◌, ◌≤◌, true, ◌||◌, eqb, leb, ◌⊎◌, List, [], ◌∷◌, ◌++◌, map, length, get_or, drop, Some, None, sym, refl, ap, ◌∙◌, subst, ⊎_elim, arith, length-append}
 use Rattle.std.proofs.lemmas.Bool.{eq-eqb, leb-true, and_parts, or_left, or_right, true≢false, cond-true}
 use Rattle.std.specs.List.{range_with_len}
 use Rattle.std.proofs.lemmas.List.FromFn.{length-map-range_with_len, get_or-map-range_with_len}
@@ -8,22 +8,20 @@ use Rattle.schedule.specs.declared.activity.Activity.{Activity}
 use Rattle.schedule.specs.Waiting.{no_activity, Placed}
 use Rattle.rules.specs.Watching.{off}
 use Rattle.parameters.specs.Places.{may_put}
-use Rattle.memory.specs.Threefold.{voted_words, thrice, threefold}
+use Rattle.memory.specs.Threefold.{voted_words, thrice}
 use Rattle.satellite.specs.State.{State, rule, count, at_launch}
 use Rattle.satellite.specs.Story.{Inputs, ticked}
-use Rattle.satellite.specs.Fit.{Fit, RuleFit, RulesFit, most}
+use Rattle.satellite.specs.Fit.{Fit, RuleFit, most}
 use Rattle.layout.specs.Map.{word_count, words_of, activity_at, rule_at, schedule_in, rules_in, state_of}
-use Rattle.layout.specs.Fault.{at_fault, Faultless, Sane}
+use Rattle.layout.specs.Fault.{Faultless, Sane}
 use Rattle.layout.proofs.Sanity.{sane_of}
 use Rattle.layout.proofs.Places.{length_words}
 use Rattle.telemetry.specs.Reports.{report_of, numbers_of}
 use Rattle.flight.specs.Machine.{launched}
-use Rattle.flight.specs.Flight.{Lawful, machine, after, Flew}
+use Rattle.flight.specs.Flight.{after, Flew}
 use Rattle.flight.proofs.Flying.{flies_right, carries_on}
 use Rattle.flight.proofs.Fitting.{never_refused}
-use Rattle.onboard.specs.declared.Lent.{Lent}
 use Rattle.onboard.specs.declared.Lent.TheVariants.{Memory, Readings, Frame, Report}
-use Rattle.onboard.specs.declared.Refusal.{Refusal}
 use Rattle.onboard.specs.declared.Refusal.TheVariants.{Length, Unfit}
 use Rattle.onboard.specs.declared.Done.{Done}
 use Rattle.onboard.specs.declared.Done.TheVariants.{Ticked, Refused}

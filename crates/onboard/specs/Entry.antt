@@ -1,5 +1,5 @@
 -- What the entries answer and leave behind, over the numbers that they are lent.
-use Rattle.std.specs.Prelude.{◌≡◌, ℕ, ◌*◌, ◌<◌, Bool, cond, ◌||◌, ◌⊎◌, List, [], ◌∷◌, length, Some, None, Ok, Err, Option, Result, ◌==◌, ◌≢◌}
+use Rattle.std.specs.Prelude.{◌≡◌, ℕ, ◌*◌, ◌<◌, cond, ◌||◌, ◌⊎◌, List, [], ◌∷◌, length, Some, None, Ok, Err, Option, Result, ◌==◌, ◌≢◌}
 use Rattle.memory.specs.Threefold.{voted_words, thrice, threefold}
 use Rattle.satellite.specs.State.{State, at_launch}
 use Rattle.satellite.specs.Story.{Inputs, ticked}

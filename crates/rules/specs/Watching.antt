@@ -1,5 +1,5 @@
 -- Fault-protection rules: when a value is past a rule's limit, when a rule acts, and which rules may be set.
-use Rattle.std.specs.Prelude.{Bool, true, false, cond, ◌&&◌, ◌||◌, ℕ, suc, leb, eqb}
+use Rattle.std.specs.Prelude.{Bool, false, cond, ◌&&◌, ◌||◌, ℕ, suc, leb, eqb}
 use Rattle.parameters.specs.Places.{may_put}
 use Rattle.rules.specs.declared.rule.Rule.{Rule}
 

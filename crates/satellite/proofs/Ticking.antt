@@ -8,7 +8,7 @@ use Rattle.frame.specs.Frame.{decoded}
 use Rattle.satellite.specs.State.{State, with_safe_mode, with_missed, with_parameters, with_schedule, with_counts}
 use Rattle.satellite.specs.Fit.{Fit, RulesFit, most}
 use Rattle.satellite.proofs.Watching.{watched_kept}
-use Rattle.satellite.specs.Story.{Inputs, begun, watched, released, received, heeded, at_release, at_reception, ticked}
+use Rattle.satellite.specs.Story.{Inputs, begun, watched, released, heeded, at_release, at_reception, ticked}
 
 pub receiving : (i : Inputs) (s b w u : State) → b ≡ begun i.readings s → w ≡ watched 16 b → u ≡ released w → u ≡ at_reception i s
 unfolding at_reception at_release

@@ -1,5 +1,5 @@
 -- What a tick needs of its state: places that there are, and room for the counters.
-use Rattle.std.specs.Prelude.{◌≡◌, ℕ, ◌<◌, ◌≤◌, false, length}
+use Rattle.std.specs.Prelude.{◌≡◌, ℕ, ◌<◌, ◌≤◌, false}
 use Rattle.schedule.specs.Waiting.{Placed}
 use Rattle.rules.specs.declared.rule.Rule.{Rule}
 use Rattle.satellite.specs.State.{State, rule, count}

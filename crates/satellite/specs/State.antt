@@ -1,5 +1,5 @@
 -- What the satellite is: plain numbers, marks and lists.
-use Rattle.std.specs.Prelude.{ℕ, Bool, true, false, List, [], replicate, slice_index, slice_index_or}
+use Rattle.std.specs.Prelude.{ℕ, Bool, true, List, [], replicate, slice_index, slice_index_or}
 use Rattle.schedule.specs.declared.activity.Activity.{Activity}
 use Rattle.rules.specs.declared.rule.Rule.{Rule}
 use Rattle.rules.specs.Watching.{off}

@@ -1,5 +1,5 @@
 -- Every command comes through.
-use Rattle.std.proofs.Common.{◌≡◌, ℕ, zero, suc, ◌+◌, ◌*◌, ◌<◌, ◌≤◌, Bool, true, false, cond, ltb, List, [], ◌∷◌, ◌++◌, reverse, length, take, drop, Some, None, Option, sym, refl, ap, ◌∙◌, subst, ⊎_elim, mul-suc, arith, length-drop, take-append-drop}
+use Rattle.std.proofs.Common.{◌≡◌, ℕ, zero, suc, ◌*◌, ◌<◌, ◌≤◌, true, false, ltb, List, [], ◌∷◌, ◌++◌, length, take, drop, Some, None, Option, sym, refl, ap, ◌∙◌, subst, ⊎_elim, mul-suc, arith, length-drop, take-append-drop}
 use Rattle.std.proofs.lemmas.List.{append_assoc, length-take-le, take_all}
 use Rattle.std.proofs.lemmas.Bool.{cases_lt, cases_Bool, ltb-true, cond-true, cond-false}
 use Rattle.frame.specs.declared.Command.{Command}
@@ -8,10 +8,10 @@ use Rattle.frame.specs.Frame.{decoded, encodable, encoded, encoding}
 use Rattle.frame.proofs.Back.{round_trip}
 use Rattle.satellite.specs.Story.{Inputs}
 use Rattle.flight.specs.Flight.{after}
-use Rattle.flight.specs.Commanding.{heard, obeyed_in}
+use Rattle.flight.specs.Commanding.{heard}
 use Rattle.flight.proofs.Commanded as commanded
-use Rattle.station.specs.Line.{numbered, frame_for, Sendable}
-use Rattle.station.specs.Passes.{FromFile, Names, ComesThrough, Brings, now, before, Delivers, AllObeyed}
+use Rattle.station.specs.Line.{numbered, Sendable}
+use Rattle.station.specs.Passes.{Names, ComesThrough, Brings, now, before, Delivers, AllObeyed}
 use Rattle.station.proofs.Knowing.{within_file, expected_grows, surely_obeyed}
 
 -- the frame that is named carries the expected command

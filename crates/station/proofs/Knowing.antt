@@ -1,17 +1,16 @@
 -- What a report expects was obeyed before it, exactly and in order.
-use Rattle.std.proofs.Common.{◌≡◌, ℕ, zero, suc, ◌+◌, ◌<◌, ◌≤◌, List, [], ◌∷◌, ◌++◌, reverse, length, get_or, take, Some, None, sym, refl, ap, ◌∙◌, subst, ⊎_elim, add-one, arith}
+use Rattle.std.proofs.Common.{◌≡◌, ℕ, zero, suc, ◌≤◌, List, [], ◌∷◌, ◌++◌, reverse, length, get_or, take, Some, sym, refl, ap, ◌∙◌, subst, ⊎_elim, add-one, arith}
 use Rattle.std.proofs.lemmas.List.{reverse-append, take_more}
 use Rattle.frame.specs.declared.Command.{Command}
-use Rattle.frame.specs.declared.Command.TheVariants.{Put, Later, Forget, Sleep, Wake, SetRule, Unknown}
+use Rattle.frame.specs.declared.Command.TheVariants.{Sleep}
 use Rattle.frame.specs.declared.Telecommand.{Telecommand}
 use Rattle.satellite.specs.State.{State}
-use Rattle.satellite.specs.Story.{Inputs, obeyed, at_reception}
+use Rattle.satellite.specs.Story.{Inputs, at_reception}
 use Rattle.flight.specs.Flight.{after}
 use Rattle.flight.specs.Commanding.{heard, FromGround, obeyed_in, first_sent}
 use Rattle.flight.proofs.Steps.{ticked_cases}
 use Rattle.flight.proofs.Commanded.{expected_kept, obeyed_expected, obeyed_else, each_once}
 use Rattle.std.proofs.lemmas.Bool.{cases_eq}
-use Rattle.station.specs.Line.{numbered}
 use Rattle.station.specs.Passes.{FromFile, SurelyObeyed}
 
 -- the commands of a file, by their numbers

@@ -1,9 +1,9 @@
 -- The ground's end of the line: which frame it sends next, and what it knows.
-use Rattle.std.specs.Prelude.{◌≡◌, ℕ, ◌<◌, Bool, true, cond, ◌&&◌, List, [], ◌∷◌, length, Some, None, Option, nat_lt, slice_index_or}
+use Rattle.std.specs.Prelude.{◌≡◌, ℕ, ◌<◌, true, cond, List, length, Some, None, Option, nat_lt, slice_index_or}
 use Rattle.frame.specs.declared.Command.{Command}
 use Rattle.frame.specs.declared.Command.TheVariants.{Sleep}
 use Rattle.frame.specs.declared.Telecommand.{Telecommand}
-use Rattle.frame.specs.Frame.{decoded, encodable, encoding}
+use Rattle.frame.specs.Frame.{encodable, encoding}
 use Rattle.telemetry.specs.declared.Report.{Report}
 
 -- command n of a file, with its number

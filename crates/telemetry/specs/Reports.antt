@@ -1,5 +1,5 @@
 -- What a report says of the satellite, and its eight numbers.
-use Rattle.std.specs.Prelude.{ℕ, Bool, cond, ◌&&◌, List, [], ◌∷◌, length, Some, None, Option, ◌==◌, nat_le, slice_index}
+use Rattle.std.specs.Prelude.{ℕ, cond, ◌&&◌, List, [], ◌∷◌, length, Some, None, Option, ◌==◌, nat_le, slice_index}
 use Rattle.satellite.specs.State.{State, parameter}
 use Rattle.telemetry.specs.declared.Report.{Report}
 

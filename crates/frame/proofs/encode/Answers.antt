@@ -1,4 +1,4 @@
-use Rattle.std.proofs.Common.{sym, ◌∙◌}
+use Rattle.std.proofs.Common.{sym}
 use Rattle.frame.proofs.Back.{round_trip, encoding_some}
 use Rattle.frame.proofs.encode.Goals as goal
 

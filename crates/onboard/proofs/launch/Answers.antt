@@ -1,6 +1,6 @@
 use Rattle.std.proofs.Common.{◌≡◌, ap, ◌∙◌, arith}
 use Rattle.memory.specs.Threefold.{thrice}
-use Rattle.satellite.specs.State.{State, at_launch}
+use Rattle.satellite.specs.State.{at_launch}
 use Rattle.layout.specs.Map.{words_of}
 use Rattle.onboard.proofs.Entering.{launch_flies}
 use Rattle.onboard.proofs.launch.Goals as goal

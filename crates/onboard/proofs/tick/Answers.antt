@@ -1,11 +1,11 @@
-use Rattle.std.proofs.Common.{◌≡◌, ℕ, ◌≤◌, List, get_or, Some, None, Option, sym, refl, ap, ◌∙◌, subst, arith, rules}
+use Rattle.std.proofs.Common.{◌≡◌, ℕ, List, Some, sym, refl, ap, ◌∙◌, subst, arith, rules}
 use Rattle.memory.specs.Threefold.{voted_words, thrice}
 use Rattle.satellite.specs.Model.{model}
 use Rattle.satellite.specs.Story.{ticked}
 use Rattle.satellite.specs.Fit.{Fit}
-use Rattle.layout.specs.Map.{word_count, words_of}
+use Rattle.layout.specs.Map.{word_count}
 use Rattle.layout.specs.Fault.{Lowest}
-use Rattle.telemetry.specs.Reports.{numbers_of, report_of}
+use Rattle.telemetry.specs.Reports.{numbers_of}
 use Rattle.onboard.specs.declared.Refusal.TheVariants.{Length, Unfit}
 use Rattle.onboard.specs.declared.Done.TheVariants.{Ticked, Refused}
 use Rattle.onboard.specs.Entry.{Says}

@@ -1,4 +1,4 @@
-use Rattle.std.proofs.Common.{ℕ, ◌+◌, get_or, ◌∙◌, arith, length-set}
+use Rattle.std.proofs.Common.{◌+◌, get_or, arith, length-set}
 use lib.ListN.{length-replicate}
 use Rattle.std.proofs.lemmas.List.Edits.{fill_by_more}
 use Rattle.layout.proofs.Parts.{part_all}

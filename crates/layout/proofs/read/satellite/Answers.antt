@@ -1,5 +1,4 @@
-use Rattle.std.proofs.Common.{◌≡◌, eqb, get_or}
-use Rattle.satellite.specs.State.{State}
+use Rattle.std.proofs.Common.{eqb, get_or}
 use Rattle.layout.specs.Map.{state_of}
 use Rattle.layout.proofs.read.satellite.Goals as goal
 

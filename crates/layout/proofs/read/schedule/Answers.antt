@@ -1,4 +1,4 @@
-use Rattle.std.proofs.Common.{◌≡◌, get_or, ◌∙◌, arith, length-set}
+use Rattle.std.proofs.Common.{get_or, ◌∙◌, arith, length-set}
 use Rattle.std.proofs.lemmas.List.FromFn.{fill_by_all}
 use Rattle.schedule.specs.Waiting.{no_activity, first}
 use Rattle.schedule.proofs.First.{length_first, getD_first}

@@ -1,4 +1,4 @@
-use Rattle.std.proofs.Common.{◌≡◌, ℕ, ◌+◌, ◌*◌, ◌++◌, get_or, take, drop, sym, refl, ap, ◌∙◌, arith, take-append-drop}
+use Rattle.std.proofs.Common.{◌≡◌, ◌+◌, ◌*◌, ◌++◌, get_or, take, drop, sym, refl, ◌∙◌, arith, take-append-drop}
 use Rattle.std.specs.List.{flat_map}
 use Rattle.schedule.specs.Waiting.{no_activity, first}
 use Rattle.schedule.proofs.First.{length_first, first_more}

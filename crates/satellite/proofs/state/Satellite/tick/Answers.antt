@@ -1,5 +1,4 @@
 use Rattle.std.proofs.Common.{◌≡◌, Some, None, sym, ap, ◌∙◌}
-use Rattle.satellite.specs.State.{State}
 use Rattle.satellite.specs.Story.{Inputs, released}
 use Rattle.satellite.specs.Model.{model}
 use Rattle.satellite.proofs.Ticking.{receiving, heeding, released_none, unheeded, watch_fit, release_fit, obey_fit}

@@ -1,8 +1,8 @@
-use Rattle.std.proofs.Common.{◌≡◌, ℕ, ◌≤◌, Bool, true, false, eqb, leb, set, sym, ap, ◌∙◌, arith}
+use Rattle.std.proofs.Common.{◌≡◌, ℕ, true, eqb, leb, set, sym, ap, ◌∙◌}
 use Rattle.std.proofs.lemmas.Bool.{and_parts, leb-true}
 use Rattle.rules.specs.Watching.{acts}
 use Rattle.satellite.specs.State.{State, rule, with_counts}
-use Rattle.satellite.specs.Story.{looked, acted, counted}
+use Rattle.satellite.specs.Story.{looked, acted}
 use Rattle.satellite.specs.Model.{model}
 use Rattle.satellite.proofs.Watching.{watched_none, its_rule, its_count, acts_one, idle_one}
 use Rattle.satellite.proofs.state.Satellite.watch.Goals as goal

@@ -1,4 +1,3 @@
-use Rattle.std.proofs.Common.{sym}
 use Rattle.std.proofs.lemmas.Bool.{true≢false}
 use Rattle.schedule.proofs.Releasing.{none_more, some_at}
 use Rattle.schedule.proofs.waiting.Schedule.is_due.Goals as goal
