@@ -1,5 +1,5 @@
 -- Words that begin as an event does, and do not go on as one.
-use Rattle.std.proofs.Common.{◌≡◌, ℕ, ◌^◌, true, eqb, List, [], ◌∷◌, map, length, drop, None, sym, ap, ◌∙◌, arith, true-eqb}
+use Rattle.std.proofs.Common.{◌≡◌, ℕ, ◌^◌, eqb, List, ◌∷◌, map, length, drop, None, sym, ap, ◌∙◌, arith, true-eqb}
 use Rattle.std.proofs.lemmas.Bool.{and_parts}
 use Rattle.text.specs.Law.{all_below}
 use Rattle.text.specs.declared.words.Word.{Word}

@@ -1,10 +1,9 @@
 -- The words of a rule: eight numbers, two of them marks.
-use Rattle.std.proofs.Common.{◌≡◌, ℕ, zero, suc, ◌<◌, ◌≤◌, Bool, true, false, eqb, List, [], ◌∷◌, map, length, get_or, drop, Some, None, Option, sym, refl, ap, ◌∙◌, arith}
+use Rattle.std.proofs.Common.{◌≡◌, ℕ, zero, suc, ◌≤◌, Bool, true, false, eqb, List, [], ◌∷◌, map, length, get_or, drop, Some, None, Option, sym, refl, ap, ◌∙◌, arith}
 use Rattle.rules.specs.declared.rule.Rule as rules
 use Rattle.frame.specs.declared.Command.{Command}
 use Rattle.text.specs.declared.words.Word.{Word}
 use Rattle.text.specs.declared.words.Word.TheVariants.{Number, Rule}
-use Rattle.text.specs.Law.{command_bounded}
 use Rattle.text.specs.Table.{mark, command_words, Numbers, RuleNumbers, Commands}
 use Rattle.text.proofs.Shapes.{like}
 use Rattle.text.proofs.Undoing.{num, all_num}

@@ -4,7 +4,7 @@ use mathlib.Core.List.{map-append}
 use Rattle.std.proofs.lemmas.List.{take_at, get_or_at, length_push, map_push, same_from_push}
 use Rattle.text.specs.declared.words.Word.{Word}
 use Rattle.text.specs.declared.cut.Stop.TheVariants.{Line}
-use Rattle.text.specs.Cut.{stops, cut, further, First}
+use Rattle.text.specs.Cut.{stops, further, First}
 use Rattle.text.specs.Words.{line_words, lines}
 use Rattle.text.specs.Text.{spoken, Says, FirstFault}
 use Rattle.text.proofs.Splitting.{further_none, further_some}

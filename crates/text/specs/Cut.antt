@@ -1,5 +1,5 @@
 -- A list of bytes is cut at the bytes that pass a test.
-use Rattle.std.specs.Prelude.{◌≡◌, ℕ, ◌≤◌, Bool, true, false, cond, ◌||◌, List, [], ◌∷◌, length, take, drop, ◌==◌}
+use Rattle.std.specs.Prelude.{◌≡◌, ℕ, ◌≤◌, Bool, cond, ◌||◌, List, [], ◌∷◌, length, take, drop, ◌==◌}
 use Rattle.text.specs.declared.cut.Stop.{Stop}
 use Rattle.text.specs.declared.cut.Stop.TheVariants.{Line, Comment, Blank}
 

@@ -9,8 +9,8 @@ returns-then-words g c = wrong_length _ g.row.N c.if-words.true
 pub loop-i-preserved : goal.loop-i-preserved
 loop-i-preserved g c = (simp length-set c.loop-i.invariant.0, one_more c.args.words.now c.loop-i.numbers c.loop-i.i _ _ (omega arith) (omega arith) (sym c.in-Some.ensures) c.loop-i.invariant.1)
 
-pub returns-in-default : goal.returns-in-default
-returns-in-default g c = not_number _ g.row.N c.loop-i.i _ c.loop-i-test.true (sym c.in-default.ensures)
+pub returns-in_default : goal.returns-in_default
+returns-in_default g c = not_number _ g.row.N c.loop-i.i _ c.loop-i-test.true (sym c.in_default.ensures)
 
 pub returns : goal.returns
 returns g c = (c.loop-i.invariant.0, all_numbers c.args.words.now c.loop-i.numbers c.loop-i.i (omega arith) (omega arith) c.loop-i.invariant.1)

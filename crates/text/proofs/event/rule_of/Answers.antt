@@ -3,8 +3,8 @@ use Rattle.text.proofs.Ruling.{rule_said, no_eight, no_mark}
 use Rattle.text.proofs.event.rule_of.Goals as goal
 use Rattle.text.proofs.event.rule_of.Goals.{then-said-gt1-via-then-said-gt1, then-said-gt1-via-else-said-gt1+then-said-gt1-2}
 
-pub returns-in-default : goal.returns-in-default
-returns-in-default c = no_eight c.args.words.now c.in-default.ensures
+pub returns-in_default : goal.returns-in_default
+returns-in_default c = no_eight c.args.words.now c.in_default.ensures
 
 pub returns-then-said-gt1 : goal.returns-then-said-gt1
 returns-then-said-gt1 c =

@@ -6,8 +6,8 @@ use Rattle.text.specs.Words.{spelt}
 use Rattle.text.proofs.Writing.{ok_is, put_more, put_is, spelt_listed}
 use Rattle.text.proofs.write.EventDisplay.fmt.Goals as goal
 
-pub returns-in-ok-write-clause-writes : goal.returns-in-ok-write-clause-writes
-returns-in-ok-write-clause-writes g c = λ p k.
-    let h = c.write-in-Frame.ensures.writes p (ok_is _ _ c.in-ok-write.was) in
+pub returns-in_ok-write-in-Frame-clause-writes : goal.returns-in_ok-write-in-Frame-clause-writes
+returns-in_ok-write-in-Frame-clause-writes g c = λ p k.
+    let h = c.write-in-Frame.ensures.writes p (ok_is _ _ c.in_ok-write-in-Frame.was) in
     put_is g.W.Write.write_str_gives _ _ _ _ (sym (ap (λ (e : Event). spelt (event_words e)) c.in-Frame.is ∙ spelt_listed Frame c.in-Frame.numbers))
     (put_more g.W.Write.write_str_gives _ _ _ _ _ h (c.list.ensures h.plain k))

@@ -7,9 +7,9 @@ use Rattle.text.specs.Words.{spelt}
 use Rattle.text.proofs.Writing.{ok_is, put_more, put_is, spelt_listed}
 use Rattle.text.proofs.write.OrderDisplay.fmt.Goals as goal
 
-pub returns-in-ok-write-clause-writes : goal.returns-in-ok-write-clause-writes
-returns-in-ok-write-clause-writes g c = λ p k.
-    let h = c.write-in-SetRule.ensures.writes p (ok_is _ _ c.in-ok-write.was) in
+pub returns-in_ok-write-in-SetRule-clause-writes : goal.returns-in_ok-write-in-SetRule-clause-writes
+returns-in_ok-write-in-SetRule-clause-writes g c = λ p k.
+    let h = c.write-in-SetRule.ensures.writes p (ok_is _ _ c.in_ok-write-in-SetRule.was) in
     put_is g.W.Write.write_str_gives _ _ _ _
-    (sym (ap (λ (x : Command). spelt (command_words x)) c.in-SetRule.is ∙ ap (λ (ws : List Word). spelt (Rule ∷ ws)) (sym c.rule-numbers-numbers.ensures) ∙ spelt_listed Rule c.rule-numbers-numbers.result))
+    (sym (ap (λ (x : Command). spelt (command_words x)) c.in-SetRule.is ∙ ap (λ (ws : List Word). spelt (Rule ∷ ws)) (sym c.rule_numbers-numbers.ensures) ∙ spelt_listed Rule c.rule_numbers-numbers.result))
     (put_more g.W.Write.write_str_gives _ _ _ _ _ h (c.list.ensures h.plain k))
