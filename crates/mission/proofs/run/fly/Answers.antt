@@ -7,7 +7,7 @@ use Rattle.mission.specs.declared.aloft.Output.{Output}
 use Rattle.mission.specs.Steps.{Ran, launched}
 use Rattle.mission.proofs.Flying.{run_more, outputs_more, outputs_same, run_right}
 use Rattle.mission.proofs.run.fly.Goals as goal
-use Rattle.mission.proofs.run.fly.Goals.{in-Some+in-ok-push, in-default}
+use Rattle.mission.proofs.run.fly.Goals.{in-Some+in_ok-push, in_default}
 
 pub loop-event-init : goal.loop-event-init
 loop-event-init c =
@@ -17,10 +17,10 @@ loop-event-init c =
 pub loop-event-preserved : goal.loop-event-preserved
 loop-event-preserved c =
     elim c.match-stepped.branch [
-      | in-Some+in-ok-push w ↦ run_more c.args.events.now c.loop-event.event-index _ c.loop-event.aloft _ _ (vec_items c.loop-event.outputs) (vec_items c.match-stepped.outputs) c.loop-event-test.true c.loop-event.invariant c.step-stepped.ensures
-          (outputs_more _ w.in-Some.output _ _ w.in-Some.is (ap vec_items w.outputs-is ∙ pushed (w.in-Some.output ∷ []) refl w.in-ok-push.was w.push.ensures.items))
-      | in-default w ↦ run_more c.args.events.now c.loop-event.event-index _ c.loop-event.aloft _ _ (vec_items c.loop-event.outputs) (vec_items c.match-stepped.outputs) c.loop-event-test.true c.loop-event.invariant c.step-stepped.ensures
-          (outputs_same _ _ _ w.in-default.is (ap vec_items w.outputs-is))
+      | in-Some+in_ok-push w ↦ run_more c.args.events.now c.loop-event.event-index _ c.loop-event.aloft _ _ (vec_items c.loop-event.outputs) (vec_items c.match-stepped.outputs) c.loop-event-test.true c.loop-event.invariant c.step-stepped.ensures
+          (outputs_more _ w.in-Some.output _ _ w.in-Some.is (ap vec_items w.outputs-is ∙ pushed (w.in-Some.output ∷ []) refl w.in_ok-push.was w.push.ensures.items))
+      | in_default w ↦ run_more c.args.events.now c.loop-event.event-index _ c.loop-event.aloft _ _ (vec_items c.loop-event.outputs) (vec_items c.match-stepped.outputs) c.loop-event-test.true c.loop-event.invariant c.step-stepped.ensures
+          (outputs_same _ _ _ w.in_default.is (ap vec_items w.outputs-is))
     ]
 
 pub returns : goal.returns

@@ -3,7 +3,7 @@ use Rattle.text.proofs.Writing.{ok_is, put_more, put_is}
 use Rattle.mission.specs.Lines.{line_of}
 use Rattle.mission.proofs.aloft.OutputDisplay.fmt.Goals as goal
 
-pub returns-in-ok-write-clause-writes : goal.returns-in-ok-write-clause-writes
-returns-in-ok-write-clause-writes g c = λ p k.
-    let h = c.write.ensures.writes p (ok_is _ _ c.in-ok-write.was) in
+pub returns-in_ok-write-in-Report-clause-writes : goal.returns-in_ok-write-in-Report-clause-writes
+returns-in_ok-write-in-Report-clause-writes g c = λ p k.
+    let h = c.write.ensures.writes p (ok_is _ _ c.in_ok-write-in-Report.was) in
     put_is g.W.Write.write_str_gives _ _ _ _ (sym (ap line_of c.in-Report.is)) (put_more g.W.Write.write_str_gives _ _ _ _ _ h (c.list.ensures h.plain k))
