@@ -1,4 +1,4 @@
-//! The entries as a board written in C calls them: lent numbers in, one number out.
+//! The entries as a board written in C calls them: lent numbers in, one number out. `board_c` exports them.
 
 #![tactic(auto)]
 
@@ -12,8 +12,7 @@ use onboard::{Done, Refusal};
 const PLACES: u64 = 1 << 32;
 
 /// Writes the memory of a satellite at launch, and answers as a tick does.
-#[unsafe(no_mangle)]
-pub extern "C" fn board_launch(memory: &mut [u64]) -> u64
+pub fn board_launch(memory: &mut [u64]) -> u64
     ensures { AnswersLaunch result memory.old memory.new }
 {
     match onboard::launch(memory) {
@@ -23,13 +22,7 @@ pub extern "C" fn board_launch(memory: &mut [u64]) -> u64
 }
 
 /// One tick. 0 says that it is done; else the upper half is the number of the refusal and the lower half its place.
-#[unsafe(no_mangle)]
-pub extern "C" fn board_tick(
-    memory: &mut [u64],
-    readings: &[u16],
-    frame: &[u64],
-    report: &mut [u64],
-) -> u64
+pub fn board_tick(memory: &mut [u64], readings: &[u16], frame: &[u64], report: &mut [u64]) -> u64
     ensures { AnswersTick result memory.old readings.now frame.now report.old memory.new report.new }
 {
     match onboard::tick(memory, readings, frame, report) {
