@@ -1,5 +1,5 @@
 -- A run of tolerated events gives the story's reports.
-use Rattle.std.proofs.Common.{◌≡◌, ℕ, zero, suc, ◌+◌, ◌*◌, ◌<◌, ◌≤◌, Bool, true, false, cond, ◌&&◌, eqb, ltb, ◌≢◌, ◌⊎◌, List, [], ◌∷◌, ◌++◌, reverse, length, get_or, take, set, replicate, Some, None, Option, sym, refl, ap, ◌∙◌, subst, inl, inr, ⊎_elim, arith}
+use Rattle.std.proofs.Common.{◌≡◌, ℕ, ◌+◌, ◌*◌, ◌<◌, ◌≤◌, true, false, cond, ◌&&◌, ltb, ◌⊎◌, List, [], ◌∷◌, ◌++◌, reverse, length, get_or, take, set, Some, None, Option, sym, refl, ap, ◌∙◌, subst, inl, inr, ⊎_elim, arith}
 use Rattle.std.proofs.lemmas.List.{length-set, get_or-set_other, reverse-append, take_more}
 use Rattle.std.proofs.lemmas.Bool.{cases_eq, cases_Bool, cond-true, cond-false, and_parts, ltb-true}
 use Rattle.memory.specs.Threefold.{copy, Spared, Upset}
@@ -8,19 +8,16 @@ use Rattle.layout.specs.Map.{word_count}
 use Rattle.satellite.specs.Story.{Inputs}
 use Rattle.satellite.specs.Fit.{most}
 use Rattle.telemetry.specs.Reports.{report_of, numbers_of}
-use Rattle.frame.specs.declared.Command.{Command}
-use Rattle.frame.specs.declared.Telecommand.{Telecommand}
-use Rattle.frame.specs.Frame.{encodable, encoded, encoding}
 use Rattle.flight.specs.Flight.{after, Flew}
 use Rattle.flight.specs.Scheduling.{Among, here, there}
 use Rattle.flight.proofs.Waits.{among_cons}
 use Rattle.text.specs.declared.event.Event.{Event}
 use Rattle.onboard.specs.declared.Done.{Done}
-use Rattle.onboard.specs.declared.Done.TheVariants.{Ticked, Refused}
+use Rattle.onboard.specs.declared.Done.TheVariants.{Ticked}
 use Rattle.mission.specs.declared.aloft.Aloft.{Aloft}
 use Rattle.mission.specs.declared.aloft.Output.{Output}
 use Rattle.mission.specs.declared.aloft.Output.TheVariants as output
-use Rattle.mission.specs.Steps.{with_reading, with_frame, up_frame, with_hit, heard_of, output_of, Calls, Ticks, Steps, and_then, Ran, launched, stepped}
+use Rattle.mission.specs.Steps.{with_reading, with_frame, up_frame, with_hit, heard_of, output_of, Ticks, Steps, and_then, Ran, launched, stepped}
 use Rattle.mission.specs.Story.{readings_of, frame_of, history, reports, Struck, hits, Tolerated}
 
 -- memory differs from what was kept only where it was hit

@@ -23,7 +23,7 @@ use Rattle.mission.specs.Lines.{line_of, told}
 use Rattle.mission.specs.declared.whole.Failure.{Failure}
 use Rattle.mission.specs.declared.whole.Failure.TheVariants as failure
 use Rattle.mission.specs.Run.{Flown, Storied, Broke, Untouched, line_told}
-use Rattle.mission.specs.Steps.{Steps, and_then, Ran, launched, stepped}
+use Rattle.mission.specs.Steps.{Steps, and_then, Ran, stepped}
 use Rattle.mission.proofs.Flying.{latest, run_right}
 
 -- whether a line is at fault

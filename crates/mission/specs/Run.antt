@@ -1,17 +1,16 @@
 -- A whole run: what is told of a flight text.
 use Rattle.std.specs.Prelude.{◌≡◌, ℕ, ◌<◌, List, [], ◌∷◌, reverse, length, Some, None, Option}
-use Rattle.std.specs.Fmt.{IsPlainFormatter, HasWritten}
+use Rattle.std.specs.Fmt.{HasWritten}
 use Rattle.std.specs.declared.fmt.Formatter.{Formatter}
 use Rattle.satellite.specs.Fit.{most}
 use Rattle.text.specs.declared.event.Event.{Event}
-use Rattle.text.specs.declared.fault.Fault.{Fault}
 use Rattle.text.specs.declared.fault.Fault.TheVariants as fault
 use Rattle.text.specs.Text.{Told, Failed}
 use Rattle.mission.specs.declared.aloft.Aloft.{Aloft}
 use Rattle.mission.specs.declared.aloft.Output.{Output}
 use Rattle.mission.specs.declared.whole.Failure.{Failure}
 use Rattle.mission.specs.declared.whole.Failure.TheVariants as failure
-use Rattle.mission.specs.Lines.{line_of, told}
+use Rattle.mission.specs.Lines.{told}
 use Rattle.mission.specs.Steps.{Ran}
 use Rattle.mission.specs.Story.{reports, Tolerated}
 

@@ -1,5 +1,5 @@
 -- What each event of a flight text does to the satellite's memory and to what its next tick is given.
-use Rattle.std.specs.Prelude.{◌≡◌, ℕ, ◌+◌, ◌*◌, Bool, cond, ◌&&◌, ◌⊎◌, List, [], ◌∷◌, length, replicate, Some, None, Option, nat_lt, slice_set}
+use Rattle.std.specs.Prelude.{◌≡◌, ℕ, ◌+◌, ◌*◌, cond, ◌&&◌, ◌⊎◌, List, [], ◌∷◌, length, replicate, Some, None, Option, nat_lt, slice_set}
 use Rattle.frame.specs.declared.Command.{Command}
 use Rattle.frame.specs.Frame.{encoding}
 use Rattle.layout.specs.Map.{word_count}

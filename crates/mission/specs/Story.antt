@@ -1,5 +1,5 @@
 -- The story of a flight text: what would be reported if there were no radiation. Events are given latest first.
-use Rattle.std.specs.Prelude.{◌≡◌, ℕ, Bool, cond, ◌&&◌, List, [], ◌∷◌, replicate, Some, None, Option, nat_lt}
+use Rattle.std.specs.Prelude.{◌≡◌, ℕ, cond, ◌&&◌, List, [], ◌∷◌, replicate, Some, None, Option, nat_lt}
 use Rattle.layout.specs.Map.{word_count}
 use Rattle.telemetry.specs.Reports.{report_of, numbers_of}
 use Rattle.satellite.specs.Story.{Inputs}

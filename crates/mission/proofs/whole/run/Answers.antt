@@ -1,4 +1,4 @@
-use Rattle.std.proofs.Common.{◌≡◌, length, sym, refl, ap, ◌∙◌, subst, arith, true-eqb, false-eqb}
+use Rattle.std.proofs.Common.{length, sym, ◌∙◌, subst, arith, true-eqb, false-eqb}
 use Rattle.text.specs.Text.{Reads, Expects}
 use Rattle.text.specs.Law.{lawful, after}
 use Rattle.text.specs.Table.{event_words}
