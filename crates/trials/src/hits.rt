@@ -1,8 +1,8 @@
 //! Hits in a rich flight: in each of the numbers of memory, and in each two copies of a word.
-use crate::flight::{Difference, Flight, Inputs, WORDS, tick_anywhere};
 use crate::frames::{Order, framed};
 use crate::rich::eventful;
 use crate::story::LARGEST;
+use crate::trial::{Difference, Flight, Inputs, WORDS, tick_anywhere};
 
 /// What happened.
 #[derive(Clone, Copy, Drop)]

@@ -3,7 +3,6 @@
 
 #![tactic(auto)]
 
-mod flight;
 mod frames;
 mod hits;
 mod random;
@@ -12,10 +11,11 @@ mod refusals;
 mod rich;
 mod short_flights;
 mod story;
+mod trial;
 
 use anyhow::anyhow;
-use flight::Difference;
 use random_flights::{TICKS, Tally, UplinkTally};
+use trial::Difference;
 
 const SEED: u64 = 1;
 

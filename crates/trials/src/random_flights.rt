@@ -1,8 +1,8 @@
 //! Random flights: commands lawful and not, frames lost, doubled, delayed and damaged, and hits in one copy of each word at most.
-use crate::flight::{Difference, Flight, Inputs, WORDS};
 use crate::frames::{Order, framed};
 use crate::random::Random;
 use crate::story::{Story, check_of};
+use crate::trial::{Difference, Flight, Inputs, WORDS};
 
 pub const FLIGHTS: u64 = 2000;
 

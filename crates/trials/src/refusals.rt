@@ -1,7 +1,7 @@
 //! Refusals: lent numbers of other lengths, and memory at fault. Nothing lent changes.
-use crate::flight::{Difference, Flight, WORDS, call, same_numbers, same_refusal, tick_anywhere};
 use crate::hits::{NUMBERS, number};
 use crate::rich::{QUIET, rich};
+use crate::trial::{Difference, Flight, WORDS, call, same_numbers, same_refusal, tick_anywhere};
 use onboard::{Done, Refusal, launch, tick};
 
 /// What happened: calls refused for a length, calls refused for a fault, and damage that is no fault.

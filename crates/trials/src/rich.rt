@@ -1,7 +1,7 @@
 //! A flight in which much goes on: rules set and counting, parameters put, and 31 activities waiting.
 //! In tick 42 the first two activities are due and a rule acts.
-use crate::flight::{Difference, Flight, Inputs};
 use crate::frames::{Order, framed};
+use crate::trial::{Difference, Flight, Inputs};
 
 // The kind and the first arguments of the commands that come first.
 const FIRST: [[u64; 9]; 8] = [

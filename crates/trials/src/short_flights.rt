@@ -1,8 +1,8 @@
 //! All short flights: every history of up to four ticks over a small alphabet of inputs.
-use crate::flight::{Difference, Flight, Inputs, WORDS};
 use crate::frames::{Order, framed};
 use crate::rich::rich;
 use crate::story::Story;
+use crate::trial::{Difference, Flight, Inputs, WORDS};
 
 /// How many ticks a history has at most.
 pub const TICKS: u8 = 4;
