@@ -1,4 +1,4 @@
--- Where the words of memory lie. This table, `words_of` and `state-of` are the only places that say so.
+-- Where the words of memory lie. This table, `words_of` and `state_of` are the only places that say so.
 --
 --   0           time
 --   1           expected

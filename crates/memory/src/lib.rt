@@ -2,7 +2,7 @@
 
 #![tactic(auto)]
 
-ghost use Rattle.std.specs.Prelude.{◌≡◌, ℕ, ◌+◌, ◌*◌, ◌<◌, ◌≤◌, length, slice_set};
+ghost use Rattle.std.specs.Prelude.{◌≡◌, ◌+◌, ◌*◌, ◌<◌, length, slice_set};
 ghost use Rattle.memory.specs.Threefold.{majority, voted, voted_words, thrice, VotesMend, UpsetsHappen};
 
 /// Of three copies the number on which two agree, the first if none do.

@@ -2,9 +2,8 @@
 
 #![tactic(auto)]
 
-ghost use Rattle.std.specs.Prelude.{◌≡◌, ℕ, List};
-ghost use Rattle.telemetry.specs.Reports.{report_of, numbers_of};
-ghost use Rattle.onboard.specs.Entry.{lent_place, refusal_number, refusal_place, wrong_length, Says, GoesOn, Launches};
+ghost use Rattle.std.specs.Prelude.{◌≡◌};
+ghost use Rattle.onboard.specs.Entry.{refusal_number, refusal_place, wrong_length, Says, GoesOn, Launches};
 
 use layout::{WORDS, fault};
 use memory::{Copies, store};

@@ -2,7 +2,7 @@ ghost use Rattle.std.specs.Prelude.{◌≡◌, ◌<◌, ◌≤◌, false, length
 ghost use Rattle.schedule.specs.Waiting.{Placed, waiting};
 ghost use Rattle.rules.specs.Watching.{off};
 ghost use Rattle.satellite.specs.State.{at_launch};
-ghost use Rattle.satellite.specs.Story.{Inputs, begun, looked, acted, watched, released, ticked};
+ghost use Rattle.satellite.specs.Story.{begun, looked, acted, watched, released, ticked};
 ghost use Rattle.satellite.specs.Fit.{Fit, RulesFit, most};
 ghost use Rattle.satellite.specs.Model.{model};
 
@@ -34,7 +34,7 @@ impl Satellite {
     pub fn tick(self, readings: &[u16], frame: &[u64]) -> Satellite
         requires sixteen { length readings.now ≡ 16 }
         requires fit { Fit (model self) }
-        ensures { model result ≡ ticked (record { readings = readings.entry.now; frame = frame.now }) (model self) }
+        ensures { model result ≡ ticked (record { readings = readings.now; frame = frame.now }) (model self) }
     {
         // To hand the satellite round copies it, so the last two steps are looked at first.
         let mut satellite = self.begin(readings).watch();
