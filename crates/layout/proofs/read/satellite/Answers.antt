@@ -14,6 +14,6 @@ returns c =
       missed = get_or w 4 0;
       parameters = c.part.ensures i;
       schedule = c.schedule.ensures i;
-      rules = c.rules.ensures i;
-      counts = c.part-2.ensures i;
+      rules = c.rules.ensures.rules i;
+      counts = c.rules.ensures.counts i;
     }
