@@ -62,9 +62,6 @@ fit_of ws f =
     let h = heads_fit ws s in
     record { time = h.0; expected = h.1; rejected = h.2; missed = h.3; placed = placed_fit ws s; rules = record { each = λ k l. rules_fit ws k s l; counts = λ k l. counts_fit ws k s l } }
 
-pub few_of : (ws : List ℕ) → Faultless ws → get_or ws 69 0 ≤ 32
-few_of ws f = (sane_of ws f).few
-
 thrice_length : (ws : List ℕ) → length (thrice ws) ≡ 3 * length ws
 thrice_length ws = omega (arith, length-append ws (ws ++ ws), length-append ws ws)
 
@@ -86,10 +83,6 @@ length_says m r f t e h = at_once (wrong_length (length m) (length r) (length f)
     at_once : (w : Option Lent) → wrong_length (length m) (length r) (length f) (length t) ≡ w → Err e ≡ refused_for w → Says (Err e) m r f t m t
     at_once None n x = let z : ◌≡◌ {A = ℕ} 0 1 = cc in absurd (omega arith)
     at_once (Some lent) n x = let z : e ≡ Length lent = cc in subst (λ (y : Refusal). Says (Err y) m r f t m t) (sym z) (n, refl, refl)
-
-pub lengths_right : (w : Option Lent) → Ok tt ≡ refused_for w → w ≡ None
-lengths_right None x = refl
-lengths_right (Some lent) x = let z : ◌≡◌ {A = ℕ} 0 1 = cc in absurd (omega arith)
 
 goes_on : (d : Result (Unit {0}) Refusal) (m r f t m₁ t₁ : List ℕ) → ((k : ℕ) → get_or r k 0 ≤ 65535) → Says d m r f t m₁ t₁ → GoesOn d m r f t m₁ t₁
 goes_on (Ok u) m r f t m₁ t₁ small says is kept flown upset short lr lf lt =
