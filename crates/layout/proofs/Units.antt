@@ -1,8 +1,7 @@
 -- Things that take m words each, one after the other.
-use Rattle.std.proofs.Common.{◌≡◌, ℕ, zero, suc, ◌+◌, ◌-◌, ◌*◌, ◌<◌, ◌≤◌, List, [], ◌∷◌, ◌++◌, length, map, get_or, take, drop, sym, refl, ap, ◌∙◌, mul-zero, mul-suc, add-one, arith, length-append}
+use Rattle.std.proofs.Common.{◌≡◌, ℕ, zero, suc, ◌+◌, ◌-◌, ◌*◌, ◌<◌, ◌≤◌, List, [], ◌∷◌, ◌++◌, length, get_or, take, drop, sym, ap, ◌∙◌, mul-zero, mul-suc, add-one, arith, length-append}
 use Rattle.std.specs.List.{flat_map}
-use Rattle.std.proofs.Math.Seq.{take-append-add}
-use Rattle.std.proofs.lemmas.List.{append_assoc, take_all, get_or_append_left, get_or-append_right, length-take-le, take_at, drop-drop, drop_at, flat_map_more}
+use Rattle.std.proofs.lemmas.List.{append_assoc, get_or_append_left, get_or-append_right, length-take-le, take_at, drop-drop, drop_at, flat_map_more}
 
 pub length_joined : {A : Type 0} (m : ℕ) (f : A → List ℕ) → ((a : A) → length (f a) ≡ m) → (xs : List A) → length (flat_map f xs) ≡ m * length xs
 length_joined m f each [] = sym (mul-zero m)
@@ -21,13 +20,27 @@ getD_joined m f d each (x ∷ xs) rest (suc i) j a b =
     ∙ get_or-append_right (f x) (flat_map f xs ++ rest) m (m * suc i + j) 0 (each x) (omega (arith, mul-suc m i))
     ∙ ap (λ n. get_or (flat_map f xs ++ rest) n 0) e ∙ getD_joined m f d each xs rest i j (omega arith) b
 
--- each in its m numbers, and these one after the other
-pub joined_map : {A : Type 0} (f : A → List ℕ) (xs : List A) → flat_map (λ x. x) (map f xs) ≡ flat_map f xs
-joined_map f [] = refl
-joined_map f (x ∷ xs) = ap (λ (l : List ℕ). f x ++ l) (joined_map f xs)
+-- one more part behind those that were laid
+pub laid_next : (from n m : ℕ) (words before part now next : List ℕ) → length before ≡ n → from + (n + m) ≤ length words
+    → now ≡ take from words ++ (before ++ drop (from + n) words) → next ≡ take (from + n) now ++ (part ++ drop (from + n + m) now)
+    → next ≡ take from words ++ ((before ++ part) ++ drop (from + (n + m)) words)
+laid_next from n m words before part now next e l was is =
+    let front : List ℕ = take from words ++ before in
+    let len : length front ≡ from + n = length-append (take from words) before ∙ (let a = length-take-le from words (omega arith) in omega arith) in
+    let split : now ≡ front ++ drop (from + n) words = was ∙ sym (append_assoc (take from words) before (drop (from + n) words)) in
+    let a : take (from + n) now ≡ front = ap (take (from + n)) split ∙ take_at front (drop (from + n) words) (from + n) len in
+    let b : drop (from + n + m) now ≡ drop (from + (n + m)) words =
+    sym (drop-drop m (from + n) now) ∙ ap (drop m) (ap (drop (from + n)) split ∙ drop_at front (drop (from + n) words) (from + n) len) ∙ drop-drop m (from + n) words ∙ ap (λ k. drop k words) (omega arith) in
+    is ∙ (λ i. a i ++ (part ++ b i)) ∙ append_assoc (take from words) before (part ++ drop (from + (n + m)) words)
+    ∙ ap (λ (x : List ℕ). take from words ++ x) (sym (append_assoc before part (drop (from + (n + m)) words)))
 
-pub take_joined : {A : Type 0} (m : ℕ) (f : A → List ℕ) → ((a : A) → length (f a) ≡ m) → (n : ℕ) (xs : List A) → take (m * n) (flat_map f xs) ≡ flat_map f (take n xs)
-take_joined m f each zero xs = ap (λ k. take k (flat_map f xs)) (mul-zero m)
-take_joined m f each (suc n) [] = take_all (m * suc n) [] (omega arith)
-take_joined m f each (suc n) (x ∷ xs) =
-    ap (λ k. take k (f x ++ flat_map f xs)) (let e : m * suc n ≡ length (f x) + m * n = omega (arith, mul-suc m n, each x) in e) ∙ take-append-add (f x) (flat_map f xs) (m * n) ∙ ap (λ (l : List ℕ). f x ++ l) (take_joined m f each n xs)
+-- one more thing behind those that were laid
+pub laid_one : {A : Type 0} (m : ℕ) (f : A → List ℕ) → ((a : A) → length (f a) ≡ m) → (from k : ℕ) (words part now next : List ℕ) (xs ys : List A) (x : A)
+    → length xs ≡ k → ys ≡ xs ++ (x ∷ []) → part ≡ f x → from + m * (k + 1) ≤ length words
+    → now ≡ take from words ++ (flat_map f xs ++ drop (from + m * k) words) → next ≡ take (from + m * k) now ++ (part ++ drop (from + m * k + m) now)
+    → next ≡ take from words ++ (flat_map f ys ++ drop (from + m * (k + 1)) words)
+laid_one m f each from k words part now next xs ys x l e p b was is =
+    let s : m * k + m ≡ m * (k + 1) = sym (ap (λ n. m * n) (add-one k) ∙ mul-suc m k) in
+    let j : flat_map f xs ++ part ≡ flat_map f ys = ap (λ (q : List ℕ). flat_map f xs ++ q) p ∙ flat_map_more f [] xs x ∙ ap (flat_map f) (sym e) in
+    laid_next from (m * k) m words (flat_map f xs) part now next (length_joined m f each xs ∙ ap (λ n. m * n) l) (omega arith) was is
+    ∙ (λ i. take from words ++ (j i ++ drop (from + s i) words))

@@ -1,9 +1,14 @@
-ghost use Rattle.std.specs.Prelude.{◌≡◌, ◌+◌, ◌≤◌, ◌++◌, length, take, drop};
+ghost use Rattle.std.specs.Prelude.{◌≡◌, ◌+◌, ◌*◌, ◌≤◌, ◌++◌, length, map, take, drop};
+ghost use Rattle.std.specs.List.{flat_map};
+ghost use Rattle.rules.specs.Watches.{rule_of};
 ghost use Rattle.satellite.specs.Model.{model};
-ghost use Rattle.layout.specs.Map.{words_of};
+ghost use Rattle.layout.specs.Map.{activity_words, rule_words, words_of};
 
 use crate::map::{ACTIVITIES, ACTIVITY, COUNTS, PARAMETERS, RULE, RULES, TIME, WAITING, WORDS};
+use rules::{COUNT, Watch};
 use satellite::Satellite;
+use schedule::Activity;
+use std::array;
 
 /// The words of a satellite.
 pub fn words(satellite: Satellite) -> [u64; 294]
@@ -16,23 +21,45 @@ pub fn words(satellite: Satellite) -> [u64; 294]
         satellite.rejected,
         satellite.missed,
     ];
-    let waiting = satellite.schedule.len();
-    let activities = satellite.schedule.activities.map(<[u64; ACTIVITY]>::from);
-    let watched = satellite.rules.watches.map(|watch| watch.rule);
-    let rules = watched.map(<[u64; RULE]>::from);
-    let counts = satellite.rules.watches.map(|watch| watch.count);
+    let schedule = &satellite.schedule;
+    let watches = &satellite.rules.watches;
+    let counts: [u64; COUNT] = array::from_fn(|k| watches[k].count);
     let mut words = [0; WORDS];
     lay(&mut words, TIME, &head);
     lay(&mut words, PARAMETERS, &satellite.parameters.values);
-    lay(&mut words, WAITING, &[waiting as u64]);
-    lay(
-        &mut words,
-        ACTIVITIES,
-        &activities.as_flattened()[..ACTIVITY * waiting],
-    );
-    lay(&mut words, RULES, rules.as_flattened());
+    lay(&mut words, WAITING, &[schedule.len() as u64]);
+    lay_activities(&mut words, schedule.waiting());
+    lay_rules(&mut words, watches);
     lay(&mut words, COUNTS, &counts);
     words
+}
+
+// The loops that lay count places, since these say where a thing is written. To make arrays of the numbers of all
+// activities and all rules first, and to lay those, takes twice as long; the two loops differ in the size of an array,
+// over which no bound `Fn` is proved, and in what they read.
+fn lay_activities(words: &mut [u64; 294], waiting: &[Activity])
+    requires { length waiting.now ≤ 32 }
+    ensures { words.new ≡ take 70 words.old ++ (flat_map activity_words waiting.now ++ drop (70 + 3 * length waiting.now) words.old) }
+{
+    for k in 0..waiting.len() {
+        lay(
+            words,
+            ACTIVITIES + ACTIVITY * k,
+            &<[u64; ACTIVITY]>::from(waiting[k]),
+        );
+    }
+}
+
+fn lay_rules(words: &mut [u64; 294], watches: &[Watch; 16])
+    ensures { words.new ≡ take 166 words.old ++ (flat_map rule_words (map rule_of watches.now) ++ drop 278 words.old) }
+{
+    for k in 0..COUNT {
+        lay(
+            words,
+            RULES + RULE * k,
+            &<[u64; RULE]>::from(watches[k].rule),
+        );
+    }
 }
 
 // Writes a part of the words, from a place on.

@@ -67,11 +67,9 @@ pub fn store<const N: usize>(memory: &mut [u64], words: [u64; N])
 /// An upset in one copy of each word at most is voted away.
 pub fn votes_mend()
     ensures { VotesMend }
-{
-}
+{}
 
 /// There are such upsets, in every copy of every word.
 pub fn upsets_happen()
     ensures { UpsetsHappen }
-{
-}
+{}

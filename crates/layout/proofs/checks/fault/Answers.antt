@@ -1,6 +1,6 @@
-use Rattle.std.proofs.Common.{◌≡◌, true, false, sym, ◌∙◌, arith, rules, tests}
+use Rattle.std.proofs.Common.{◌≡◌, true, false, rules, tests}
 use Rattle.std.proofs.lemmas.Iterator.{first_from_Range}
-use Rattle.layout.specs.Fault.{at_fault, Lowest}
+use Rattle.layout.specs.Fault.{at_fault}
 use Rattle.layout.proofs.Sanity.{faultless_of, lowest_of}
 use Rattle.layout.proofs.checks.fault.Goals as goal
 

@@ -1,4 +1,4 @@
-use Rattle.std.proofs.Common.{ℕ, get_or, refl, arith, rules, tests}
+use Rattle.std.proofs.Common.{ℕ, refl, rules, tests}
 use Rattle.std.proofs.lemmas.Iterator.{YieldsList-from_range, cases_from_all}
 use Rattle.layout.specs.Fault.{Watches, Puts}
 use Rattle.layout.proofs.Sanity.{each_of}

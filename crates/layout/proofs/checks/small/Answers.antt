@@ -1,4 +1,4 @@
-use Rattle.std.proofs.Common.{ℕ, List, get_or, refl, arith, rules, tests}
+use Rattle.std.proofs.Common.{ℕ, List, arith, rules, tests}
 use Rattle.std.proofs.lemmas.Bool.{leb-true}
 use Rattle.std.proofs.lemmas.Fn.{fold_over, fronts}
 use Rattle.std.proofs.lemmas.Iterator.{YieldsList-from_slice}
