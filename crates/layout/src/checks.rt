@@ -1,11 +1,12 @@
-ghost use Rattle.std.specs.Prelude.{◌≡◌, ℕ, ◌<◌, ◌≤◌, true, slice_index};
+ghost use Rattle.std.specs.Prelude.{◌≡◌, ℕ, ◌<◌, ◌≤◌, true, ◌⊎◌, slice_index};
+ghost use Rattle.parameters.specs.Places.{may_put};
 ghost use Rattle.layout.specs.Fault.{activity_fault, rule_fault, at_fault, Lowest, Small, Later, Placed, Watches, Puts, Sane, FaultsRight};
 
 use crate::map::{ACTIVITIES, ACTIVITY, COUNTS, RULE, RULES, TIME, WAITING, WORDS};
-use crate::read::{activity, rule};
+use crate::read::{activity, watch};
 use parameters::{PLACES, may_put};
-use rules::COUNT;
-use schedule::ROOM;
+use rules::{COUNT, Rule};
+use schedule::{Activity, ROOM};
 
 // The largest number that a flight of fewer than 2^62 ticks can leave.
 const LARGEST: u64 = 1 << 62;
@@ -39,28 +40,24 @@ fn activities_sane(words: &[u64; 294]) -> bool
     requires { slice_index words.now 69 ≤ 32 }
     ensures { result ≡ true → ((i : ℕ) → i < slice_index words.now 69 → Later words.now i × Placed words.now i) }
 {
-    (0..words[WAITING] as usize).all(|i| activity_sane(words, i))
+    (0..words[WAITING] as usize).all(|i| activity_sane(words[TIME], activity(words, i)))
 }
 
-fn activity_sane(words: &[u64; 294], i: usize) -> bool
-    requires { i < 32 }
-    ensures { result ≡ true → Later words.now i × Placed words.now i }
+fn activity_sane(time: u64, activity: Activity) -> bool
+    ensures { result ≡ true → (time < activity.release) × (may_put activity.place ≡ true) }
 {
-    let activity = activity(words, i);
-    words[TIME] < activity.release && may_put(activity.place)
+    time < activity.release && may_put(activity.place)
 }
 
 fn rules_sane(words: &[u64; 294]) -> bool
     ensures { result ≡ true → ((i : ℕ) → i < 16 → Watches words.now i × Puts words.now i) }
 {
-    (0..COUNT).all(|i| rule_sane(words, i))
+    (0..COUNT).all(|i| rule_sane(watch(words, i).rule))
 }
 
-fn rule_sane(words: &[u64; 294], i: usize) -> bool
-    requires { i < 16 }
-    ensures { result ≡ true → Watches words.now i × Puts words.now i }
+fn rule_sane(rule: Rule) -> bool
+    ensures { result ≡ true → (rule.watches < 64) × ((rule.needs ≡ 0) ⊎ ((rule.safes ≡ true) ⊎ (may_put rule.place ≡ true))) }
 {
-    let rule = rule(words, i);
     rule.watches < PLACES as u64 && (rule.needs == 0 || rule.safes || may_put(rule.place))
 }
 

@@ -1,8 +1,8 @@
-ghost use Rattle.std.specs.Prelude.{◌≡◌, ◌+◌, ◌<◌, ◌≤◌, take, drop, slice_index};
-ghost use Rattle.schedule.specs.Waiting.{waiting};
+ghost use Rattle.std.specs.Prelude.{◌≡◌, ◌+◌, ◌<◌, ◌≤◌, map, take, drop, slice_index};
+ghost use Rattle.std.specs.List.{range_with_len};
 ghost use Rattle.rules.specs.Watches.{rules_of, counts_of};
 ghost use Rattle.satellite.specs.Model.{model};
-ghost use Rattle.layout.specs.Map.{activity_at, rule_at, watch_at, schedule_in, rules_in, state_of};
+ghost use Rattle.layout.specs.Map.{activity_at, watch_at, rules_in, state_of};
 
 use crate::map::{
     ACTIVITIES, ACTIVITY, COUNTS, EXPECTED, MISSED, PARAMETERS, REJECTED, RULE, RULES, SAFE_MODE,
@@ -28,27 +28,26 @@ pub fn satellite(words: &[u64; 294]) -> Satellite
         parameters: Parameters {
             values: part(words, PARAMETERS),
         },
-        schedule: schedule(words),
+        schedule: Schedule {
+            activities: activities(words),
+            count: words[WAITING] as usize,
+        },
         rules: rules(words),
     }
 }
 
-fn schedule(words: &[u64; 294]) -> Schedule
-    requires { slice_index words.now 69 ≤ 32 }
-    ensures { waiting result ≡ schedule_in words.now }
+// All that there is room for, whether they wait or not.
+fn activities(words: &[u64; 294]) -> [Activity; 32]
+    ensures { result ≡ map (activity_at words.now) (range_with_len 0 32) }
 {
-    Schedule {
-        activities: array::from_fn(
-            |k|
-                requires { k < 32 }
-                ensures { result ≡ activity_at words.exit.now k }
-            { activity(words, k) },
-        ),
-        count: words[WAITING] as usize,
-    }
+    array::from_fn(
+        |k|
+            requires { k < 32 }
+            ensures { result ≡ activity_at words.exit.now k }
+        { activity(words, k) },
+    )
 }
 
-// Activity k of those that there is room for, whether it waits or not.
 pub(crate) fn activity(words: &[u64; 294], k: usize) -> Activity
     requires { k < 32 }
     ensures { result ≡ activity_at words.now k }
@@ -70,21 +69,14 @@ fn rules(words: &[u64; 294]) -> Rules
     }
 }
 
-fn watch(words: &[u64; 294], k: usize) -> Watch
+pub(crate) fn watch(words: &[u64; 294], k: usize) -> Watch
     requires { k < 16 }
     ensures { result ≡ watch_at words.now k }
 {
     Watch {
-        rule: rule(words, k),
+        rule: Rule::from(part(words, RULES + RULE * k)),
         count: words[COUNTS + k],
     }
-}
-
-pub(crate) fn rule(words: &[u64; 294], k: usize) -> Rule
-    requires { k < 16 }
-    ensures { result ≡ rule_at words.now k }
-{
-    Rule::from(part(words, RULES + RULE * k))
 }
 
 // A part of the words, from a place on.

@@ -19,7 +19,7 @@ pub struct Parameters {
 pub fn may_put(place: u64) -> bool
     ensures { result ≡ may_put place }
 {
-    16 <= place && place <= 63
+    (16..=63).contains(&place)
 }
 
 impl Parameters {

@@ -1,4 +1,4 @@
-use Rattle.std.proofs.Common.{◌≡◌, get_or, arith}
+use Rattle.std.proofs.Common.{◌≡◌, get_or, ◌∙◌, arith}
 use Rattle.frame.specs.Frame.{weighed}
 use Rattle.frame.proofs.Smallness.{each_small}
 use Rattle.frame.proofs.Weights.{weighed_none, weighed_more, product, check_is}
@@ -6,12 +6,6 @@ use Rattle.frame.proofs.check.Goals as goal
 
 pub loop-i-init : goal.loop-i-init
 loop-i-init c = (weighed_none c.args.frame.now, omega arith)
-
-pub overflow_mul-sum : goal.overflow_mul-sum
-overflow_mul-sum c = omega (arith, product c.loop-i.i (get_or c.args.frame.now c.loop-i.i 0) (omega arith) (each_small c.args.frame.now c.requires c.loop-i.i (omega arith)))
-
-pub overflow_add-sum-in-loop-i : goal.overflow_add-sum-in-loop-i
-overflow_add-sum-in-loop-i c = omega (arith, product c.loop-i.i (get_or c.args.frame.now c.loop-i.i 0) (omega arith) (each_small c.args.frame.now c.requires c.loop-i.i (omega arith)))
 
 pub loop-i-preserved : goal.loop-i-preserved
 loop-i-preserved c = (

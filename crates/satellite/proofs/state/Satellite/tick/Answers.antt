@@ -13,9 +13,6 @@ freed c =
       | else-is_due v ↦ ap model v.satellite-is ∙ released_none (model c.watch-satellite.result) (c.is_due.ensures.none v.if-is_due.false)
     ]
 
-pub watch-satellite-requires : goal.watch-satellite-requires
-watch-satellite-requires c = watch_fit (record { readings = c.args.readings.now; frame = c.args.frame.now }) (model c.args.self) (model c.begin.result) c.begin.ensures c.requires
-
 pub release-satellite-requires : goal.release-satellite-requires
 release-satellite-requires c =
     let p = release_fit (record { readings = c.args.readings.now; frame = c.args.frame.now }) (model c.args.self) (model c.begin.result) (model c.watch-satellite.result) c.begin.ensures c.watch-satellite.ensures c.requires in record { placed = p.0; low_missed = p.1 }
