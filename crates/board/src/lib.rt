@@ -2,11 +2,11 @@
 
 #![tactic(auto)]
 
-ghost use Rattle.std.specs.Prelude.{◌≡◌, ◌<◌};
+ghost use Rattle.std.specs.Prelude.{◌≡◌, ◌<◌, IfErr};
 ghost use Rattle.onboard.specs.Entry.{refusal_place};
-ghost use Rattle.board.specs.Answer.{refusal_answer, AnswersTick, AnswersLaunch};
+ghost use Rattle.board.specs.Answer.{answer_of, AnswersTick, AnswersLaunch};
 
-use onboard::{Done, Refusal};
+use onboard::Refusal;
 
 // What the number of a refusal is multiplied with, so that its place can stand below it.
 const PLACES: u64 = 1 << 32;
@@ -15,25 +15,23 @@ const PLACES: u64 = 1 << 32;
 pub fn board_launch(memory: &mut [u64]) -> u64
     ensures { AnswersLaunch result memory.old memory.new }
 {
-    match onboard::launch(memory) {
-        Ok(_) => 0,
-        Err(refusal) => refusal_answer(refusal),
-    }
+    answer(onboard::launch(memory))
 }
 
 /// One tick. 0 says that it is done; else the upper half is the number of the refusal and the lower half its place.
 pub fn board_tick(memory: &mut [u64], readings: &[u16], frame: &[u64], report: &mut [u64]) -> u64
     ensures { AnswersTick result memory.old readings.now frame.now report.old memory.new report.new }
 {
-    match onboard::tick(memory, readings, frame, report) {
-        Done::Ticked => 0,
-        Done::Refused(refusal) => refusal_answer(refusal),
-    }
+    answer(onboard::tick(memory, readings, frame, report))
 }
 
-fn refusal_answer(refusal: Refusal) -> u64
-    requires { refusal_place refusal < 294 }
-    ensures { result ≡ refusal_answer refusal }
+// One number, since C has no `Result`.
+fn answer(done: Result<(), Refusal>) -> u64
+    requires { IfErr done (λ refusal. refusal_place refusal < 294) }
+    ensures { result ≡ answer_of done }
 {
-    refusal.number() * PLACES + refusal.place()
+    match done {
+        Ok(()) => 0,
+        Err(refusal) => refusal.number() * PLACES + refusal.place(),
+    }
 }

@@ -1,5 +1,5 @@
 -- A run of tolerated events gives the story's reports.
-use Rattle.std.proofs.Common.{◌≡◌, ℕ, ◌+◌, ◌*◌, ◌<◌, ◌≤◌, true, false, cond, ◌&&◌, ltb, ◌⊎◌, List, [], ◌∷◌, ◌++◌, reverse, length, get_or, take, set, Some, None, Option, sym, refl, ap, ◌∙◌, subst, inl, inr, ⊎_elim, arith}
+use Rattle.std.proofs.Common.{◌≡◌, ℕ, ◌+◌, ◌*◌, ◌<◌, ◌≤◌, true, false, cond, ◌&&◌, ltb, ◌⊎◌, List, [], ◌∷◌, ◌++◌, reverse, length, get_or, take, set, Some, None, Ok, Option, Result, sym, refl, ap, ◌∙◌, subst, inl, inr, ⊎_elim, arith}
 use Rattle.std.proofs.lemmas.List.{length-set, get_or-set_other, reverse-append, take_more}
 use Rattle.std.proofs.lemmas.Bool.{cases_eq, cases_Bool, cond-true, cond-false, and_parts, ltb-true}
 use Rattle.memory.specs.Threefold.{copy, Spared, Upset}
@@ -12,11 +12,9 @@ use Rattle.flight.specs.Flight.{after, Flew}
 use Rattle.flight.specs.Scheduling.{Among, here, there}
 use Rattle.flight.proofs.Waits.{among_cons}
 use Rattle.text.specs.declared.event.Event.{Event}
-use Rattle.onboard.specs.declared.Done.{Done}
-use Rattle.onboard.specs.declared.Done.TheVariants.{Ticked}
+use Rattle.onboard.specs.declared.Refusal.{Refusal}
 use Rattle.mission.specs.declared.aloft.Aloft.{Aloft}
 use Rattle.mission.specs.declared.aloft.Output.{Output}
-use Rattle.mission.specs.declared.aloft.Output.TheVariants as output
 use Rattle.mission.specs.Steps.{with_reading, with_frame, up_frame, with_hit, heard_of, output_of, Ticks, Steps, and_then, Ran, launched, stepped}
 use Rattle.mission.specs.Story.{readings_of, frame_of, history, reports, Struck, hits, Tolerated}
 
@@ -118,14 +116,14 @@ tick_right es a b o os l short h t =
     let i : Inputs = record { readings = a.readings; frame = heard_of a.frame } in
     let same : i ≡ record { readings = readings_of es; frame = heard_of (frame_of es) } = λ j. record { readings = h.readings j; frame = heard_of (h.frame j) } in
     let on = t.calls.flies (history es) h.kept h.flew (upset_of (hits es) h.kept a.memory (one_copy es l) h.scarred) short t.calls.readings t.calls.frame refl in
-    let d : t.done ≡ Ticked = on.0 in
+    let d : t.done ≡ Ok tt = on.0 in
     record {
       kept = b.memory;
       flew = subst (λ (x : Inputs). Flew (x ∷ history es) b.memory) same on.1;
       scarred = no_scar b.memory;
       readings = t.readings;
       frame = t.frame;
-      told = λ j. (t.told ∙ ap (λ (x : Done). output_of x t.report) d ∙ ap output.Report (on.2 ∙ ap (λ (x : Inputs). numbers_of (report_of (after (x ∷ history es)))) same)) j ∷ h.told j;
+      told = λ j. (t.told ∙ ap (λ (x : Result (Unit {0}) Refusal). output_of x t.report) d ∙ ap (λ (x : List ℕ). output_of (Ok tt) x) (on.2 ∙ ap (λ (x : Inputs). numbers_of (report_of (after (x ∷ history es)))) same)) j ∷ h.told j;
     }
 
 silently : (o : Option Output) (os : List Output) → o ≡ None → and_then o os ≡ os

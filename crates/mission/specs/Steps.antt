@@ -1,16 +1,14 @@
 -- What each event of a flight text does to the satellite's memory and to what its next tick is given.
-use Rattle.std.specs.Prelude.{◌≡◌, ℕ, ◌+◌, ◌*◌, cond, ◌&&◌, ◌⊎◌, List, [], ◌∷◌, length, replicate, Some, None, Option, nat_lt, slice_set}
+use Rattle.std.specs.Prelude.{◌≡◌, ℕ, ◌+◌, ◌*◌, cond, ◌&&◌, ◌⊎◌, List, [], ◌∷◌, length, replicate, Some, None, Ok, Err, Option, Result, nat_lt, slice_set}
 use Rattle.frame.specs.declared.Command.{Command}
 use Rattle.frame.specs.Frame.{encoding}
 use Rattle.layout.specs.Map.{word_count}
 use Rattle.text.specs.declared.event.Event.{Event}
-use Rattle.onboard.specs.declared.Done.{Done}
-use Rattle.onboard.specs.declared.Done.TheVariants.{Ticked, Refused}
+use Rattle.onboard.specs.declared.Refusal.{Refusal}
 use Rattle.onboard.specs.Entry.{Says, GoesOn}
 use Rattle.flight.specs.Flight.{Flew}
 use Rattle.mission.specs.declared.aloft.Aloft.{Aloft}
 use Rattle.mission.specs.declared.aloft.Output.{Output}
-use Rattle.mission.specs.declared.aloft.Output.TheVariants as output
 
 -- an instrument reads a value in the next tick
 abbrev pub with_reading : ℕ → ℕ → List ℕ → List ℕ
@@ -33,12 +31,13 @@ abbrev pub heard_of : Option (List ℕ) → List ℕ
 heard_of None = []
 heard_of (Some f) = f
 
-abbrev pub output_of : Done → List ℕ → Output
-output_of Ticked report = output.Report report
-output_of (Refused r) report = output.Refused r
+-- the report, unless the call was refused
+abbrev pub output_of : Result (Unit {0}) Refusal → List ℕ → Output
+output_of (Ok u) report = record { 0 = Ok report }
+output_of (Err r) report = record { 0 = Err r }
 
 -- a call of the entry does what its contract says, both that of any memory and that of flights
-pub record Calls (a : Aloft) (done : Done) (memory report : List ℕ) : Type 0 where
+pub record Calls (a : Aloft) (done : Result (Unit {0}) Refusal) (memory report : List ℕ) : Type 0 where
   pub readings : length a.readings ≡ 16
   pub frame : (length (heard_of a.frame) ≡ 0) ⊎ (length (heard_of a.frame) ≡ 12)
   pub says : Says done a.memory a.readings (heard_of a.frame) (replicate 8 0) memory report
@@ -46,7 +45,7 @@ pub record Calls (a : Aloft) (done : Done) (memory report : List ℕ) : Type 0 w
 
 -- a tick is such a call, after which nothing is said of the next tick yet
 pub record Ticks (a b : Aloft) (o : Output) : Type 0 where
-  pub done : Done
+  pub done : Result (Unit {0}) Refusal
   pub report : List ℕ
   pub calls : Calls a done b.memory report
   pub told : o ≡ output_of done report

@@ -1,5 +1,5 @@
 -- The story of a flight text: what would be reported if there were no radiation. Events are given latest first.
-use Rattle.std.specs.Prelude.{◌≡◌, ℕ, cond, ◌&&◌, List, [], ◌∷◌, replicate, Some, None, Option, nat_lt}
+use Rattle.std.specs.Prelude.{◌≡◌, ℕ, cond, ◌&&◌, List, [], ◌∷◌, replicate, Some, None, Ok, Option, nat_lt}
 use Rattle.layout.specs.Map.{word_count}
 use Rattle.telemetry.specs.Reports.{report_of, numbers_of}
 use Rattle.satellite.specs.Story.{Inputs}
@@ -7,7 +7,6 @@ use Rattle.flight.specs.Flight.{after}
 use Rattle.flight.specs.Scheduling.{Among}
 use Rattle.text.specs.declared.event.Event.{Event}
 use Rattle.mission.specs.declared.aloft.Output.{Output}
-use Rattle.mission.specs.declared.aloft.Output.TheVariants as output
 use Rattle.mission.specs.Steps.{with_reading, with_frame, up_frame, heard_of}
 
 -- what was said of the instruments, and of the line, since the last tick
@@ -43,7 +42,7 @@ reports (Event.Read i v ∷ es) = reports es
 reports (Event.Up n c ∷ es) = reports es
 reports (Event.Frame f ∷ es) = reports es
 reports (Event.Hit c w v ∷ es) = reports es
-reports (Event.Tick ∷ es) = output.Report (numbers_of (report_of (after (history (Event.Tick ∷ es))))) ∷ reports es
+reports (Event.Tick ∷ es) = record { 0 = Ok (numbers_of (report_of (after (history (Event.Tick ∷ es))))) } ∷ reports es
 
 -- a copy of a word that was hit
 pub record Struck : Type 0 where

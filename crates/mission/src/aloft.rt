@@ -13,29 +13,22 @@ pub struct Aloft {
     pub frame: Option<[u64; 12]>,
 }
 
-/// What a tick gives.
+/// What a tick gives: its report, or why it was refused.
 #[derive(Clone, Copy, Drop)]
-pub enum Output {
-    Report { numbers: [u64; 8] },
-    Refused { refusal: Refusal },
-}
+pub struct Output(pub Result<[u64; 8], Refusal>);
 
 /// The line of an output, without its end.
 impl fmt::Display for Output {
     ghost output = { λ o. Some (line_of o) };
 
     fn fmt<W: fmt::Write>(&self, f: &mut fmt::Formatter<W>) -> fmt::Result {
-        match self {
-            Output::Report { numbers } => {
+        match &self.0 {
+            Ok(numbers) => {
                 let first = numbers[0];
                 write!(f, "{first}")?;
                 list(&numbers[1..], f)
             }
-            Output::Refused { refusal } => {
-                let number = refusal.number();
-                let place = refusal.place();
-                write!(f, "refused {number} {place}")
-            }
+            Err(refusal) => write!(f, "refused {refusal}"),
         }
     }
 }

@@ -16,9 +16,7 @@ pub fn fly(heap: Global, events: &[Event]) -> Result<Vec<Output>, AllocError>
     let mut outputs = Vec::new(heap);
     let mut aloft = Aloft::launched();
     for event in events {
-        let stepped = aloft.step(*event);
-        aloft = stepped.aloft;
-        if let Some(output) = stepped.output {
+        if let Some(output) = aloft.step(*event) {
             outputs.push(output)?;
         }
     }

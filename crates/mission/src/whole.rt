@@ -69,9 +69,7 @@ fn run<W: fmt::Write>(heap: Global, text: &[u8], out: &mut fmt::Formatter<W>) ->
         match read_line(heap, one, heard)? {
             Reading::Nothing => {}
             Reading::Said(event) => {
-                let stepped = aloft.step(event);
-                tell(stepped.output, out)?;
-                aloft = stepped.aloft;
+                tell(aloft.step(event), out)?;
                 heard = heard_after(heard, event);
             }
             Reading::Unread(expected) => {

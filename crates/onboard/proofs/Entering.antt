@@ -1,5 +1,5 @@
 -- A call that does what the entry says goes on with the flight.
-use Rattle.std.proofs.Common.{◌≡◌, ℕ, ◌+◌, ◌*◌, ◌<◌, ◌≤◌, true, ◌||◌, eqb, leb, ◌⊎◌, List, [], ◌∷◌, ◌++◌, map, length, get_or, drop, Some, None, sym, refl, ap, ◌∙◌, subst, ⊎_elim, arith, length-append}
+use Rattle.std.proofs.Common.{◌≡◌, ℕ, ◌+◌, ◌*◌, ◌<◌, ◌≤◌, true, ◌||◌, eqb, leb, ◌⊎◌, List, [], ◌∷◌, ◌++◌, map, length, get_or, drop, Some, None, Ok, Err, Option, Result, sym, refl, ap, ◌∙◌, subst, ⊎_elim, arith, length-append, Fits, w16}
 use Rattle.std.proofs.lemmas.Bool.{eq-eqb, leb-true, and_parts, or_left, or_right, true≢false, cond-true}
 use Rattle.std.specs.List.{range_with_len}
 use Rattle.std.proofs.lemmas.List.FromFn.{length-map-range_with_len, get_or-map-range_with_len}
@@ -22,10 +22,10 @@ use Rattle.flight.specs.Flight.{after, Flew}
 use Rattle.flight.proofs.Flying.{flies_right, carries_on}
 use Rattle.flight.proofs.Fitting.{never_refused}
 use Rattle.onboard.specs.declared.Lent.TheVariants.{Memory, Readings, Frame, Report}
+use Rattle.onboard.specs.declared.Lent.{Lent}
+use Rattle.onboard.specs.declared.Refusal.{Refusal}
 use Rattle.onboard.specs.declared.Refusal.TheVariants.{Length, Unfit}
-use Rattle.onboard.specs.declared.Done.{Done}
-use Rattle.onboard.specs.declared.Done.TheVariants.{Ticked, Refused}
-use Rattle.onboard.specs.Entry.{wrong_length, tick_of, Says, GoesOn}
+use Rattle.onboard.specs.Entry.{wrong_length, refused_for, tick_of, Says, GoesOn}
 
 -- memory without fault says a state that can tick
 rule_fit : (ws : List ℕ) (k : ℕ) → Sane ws → k < 16 → RuleFit (rule_at ws k)
@@ -79,8 +79,20 @@ right_lengths m r f t em er ef et =
     cond-true (eqb m (3 * word_count)) _ (Some Memory) (eq-eqb m (3 * word_count) em)
     ∙ cond-true (eqb r 16) _ (Some Readings) (eq-eqb r 16 er) ∙ cond-true (eqb f 0 || eqb f 12) _ (Some Frame) a ∙ cond-true (eqb t 8) None (Some Report) (eq-eqb t 8 et)
 
-pub goes_on : (d : Done) (m r f t m₁ t₁ : List ℕ) → ((k : ℕ) → get_or r k 0 ≤ 65535) → Says d m r f t m₁ t₁ → GoesOn d m r f t m₁ t₁
-goes_on Ticked m r f t m₁ t₁ small says is kept flown upset short lr lf lt =
+-- a length that is refused is the first that is wrong, and nothing has changed
+pub length_says : (m r f t : List ℕ) (e : Refusal) → Err e ≡ refused_for (wrong_length (length m) (length r) (length f) (length t)) → Says (Err e) m r f t m t
+length_says m r f t e h = at_once (wrong_length (length m) (length r) (length f) (length t)) refl h
+  where
+    at_once : (w : Option Lent) → wrong_length (length m) (length r) (length f) (length t) ≡ w → Err e ≡ refused_for w → Says (Err e) m r f t m t
+    at_once None n x = let z : ◌≡◌ {A = ℕ} 0 1 = cc in absurd (omega arith)
+    at_once (Some lent) n x = let z : e ≡ Length lent = cc in subst (λ (y : Refusal). Says (Err y) m r f t m t) (sym z) (n, refl, refl)
+
+pub lengths_right : (w : Option Lent) → Ok tt ≡ refused_for w → w ≡ None
+lengths_right None x = refl
+lengths_right (Some lent) x = let z : ◌≡◌ {A = ℕ} 0 1 = cc in absurd (omega arith)
+
+goes_on : (d : Result (Unit {0}) Refusal) (m r f t m₁ t₁ : List ℕ) → ((k : ℕ) → get_or r k 0 ≤ 65535) → Says d m r f t m₁ t₁ → GoesOn d m r f t m₁ t₁
+goes_on (Ok u) m r f t m₁ t₁ small says is kept flown upset short lr lf lt =
     let i : Inputs = record { readings = r; frame = f } in
     let next = carries_on i is kept m flown upset (record { readings = lr; small = small; frame = lf }) in
     let e : tick_of m r f ≡ after (i ∷ is) = next.0 in (
@@ -88,19 +100,23 @@ goes_on Ticked m r f t m₁ t₁ small says is kept flown upset short lr lf lt =
       subst (Flew (i ∷ is)) (sym (says.2 ∙ ap (λ (s : State). thrice (words_of s)) e)) next.1,
       says.3 ∙ ap (λ (s : State). numbers_of (report_of s)) e,
     )
-goes_on (Refused (Length lent)) m r f t m₁ t₁ small says is kept flown upset short lr lf lt =
+goes_on (Err (Length lent)) m r f t m₁ t₁ small says is kept flown upset short lr lf lt =
     let none : wrong_length (length m) (length r) (length f) (length t) ≡ None = right_lengths (length m) (length r) (length f) (length t) (upset.long ∙ flown_length is kept flown) lr lf lt in
     let some = says.0 in
     let z : ◌≡◌ {A = ℕ} 0 1 = cc in absurd (omega arith)
-goes_on (Refused (Unfit word)) m r f t m₁ t₁ small says is kept flown upset short lr lf lt =
+goes_on (Err (Unfit word)) m r f t m₁ t₁ small says is kept flown upset short lr lf lt =
     absurd (true≢false (sym says.1.1 ∙ never_refused is kept m flown upset short word says.1.0))
+
+-- so both clauses of the entry follow from the first
+pub entered : (d : Result (Unit {0}) Refusal) (m r f t m₁ t₁ : List ℕ) → ((k : ℕ) → Fits w16 (get_or r k 0)) → Says d m r f t m₁ t₁ → record { says : Says d m r f t m₁ t₁; flies : GoesOn d m r f t m₁ t₁ }
+entered d m r f t m₁ t₁ small says = record { says = says; flies = goes_on d m r f t m₁ t₁ (λ k. let h = small k in omega arith) says }
 
 pub launch_flies : (m₁ : List ℕ) → m₁ ≡ thrice (words_of at_launch) → Flew [] m₁
 launch_flies m₁ e = launched m₁ (length_words at_launch (record { parameters = refl; schedule = omega arith; rules = refl; counts = refl }), e)
 
 -- the steps of the entry, one after the other
 pub ticked_says : (m r f t m₁ t₁ ws : List ℕ) (s : State) → wrong_length (length m) (length r) (length f) (length t) ≡ None → ws ≡ voted_words word_count m → Faultless ws
-    → s ≡ ticked (record { readings = r; frame = f }) (state_of ws) → m₁ ≡ thrice (words_of s) → t₁ ≡ numbers_of (report_of s) → Says Ticked m r f t m₁ t₁
+    → s ≡ ticked (record { readings = r; frame = f }) (state_of ws) → m₁ ≡ thrice (words_of s) → t₁ ≡ numbers_of (report_of s) → Says (Ok tt) m r f t m₁ t₁
 ticked_says m r f t m₁ t₁ ws s lengths read faultless tick left told =
     let e : s ≡ tick_of m r f = tick ∙ ap (λ (us : List ℕ). ticked (record { readings = r; frame = f }) (state_of us)) read in
     (lengths, subst Faultless read faultless, left ∙ ap (λ (u : State). thrice (words_of u)) e, told ∙ ap (λ (u : State). numbers_of (report_of u)) e)

@@ -1,5 +1,5 @@
 -- What the entries answer and leave behind, over the numbers that they are lent.
-use Rattle.std.specs.Prelude.{◌≡◌, ℕ, ◌*◌, ◌<◌, cond, ◌||◌, ◌⊎◌, List, [], ◌∷◌, length, Some, None, Ok, Err, Option, Result, ◌==◌, ◌≢◌}
+use Rattle.std.specs.Prelude.{◌≡◌, ℕ, ◌*◌, ◌<◌, cond, ◌||◌, ◌⊎◌, List, [], ◌∷◌, ◌++◌, decimal, length, Some, None, Ok, Err, Option, Result, ◌==◌, ◌≢◌}
 use Rattle.memory.specs.Threefold.{voted_words, thrice, threefold}
 use Rattle.satellite.specs.State.{State, at_launch}
 use Rattle.satellite.specs.Story.{Inputs, ticked}
@@ -12,8 +12,6 @@ use Rattle.onboard.specs.declared.Lent.{Lent}
 use Rattle.onboard.specs.declared.Lent.TheVariants.{Memory, Readings, Frame, Report}
 use Rattle.onboard.specs.declared.Refusal.{Refusal}
 use Rattle.onboard.specs.declared.Refusal.TheVariants.{Length, Unfit}
-use Rattle.onboard.specs.declared.Done.{Done}
-use Rattle.onboard.specs.declared.Done.TheVariants.{Ticked, Refused}
 
 -- the number of a refusal, and its place: which of the four that are lent, or the lowest word at fault
 abbrev pub lent_place : Lent → ℕ
@@ -30,6 +28,9 @@ abbrev pub refusal_place : Refusal → ℕ
 refusal_place (Length lent) = lent_place lent
 refusal_place (Unfit word) = word
 
+abbrev pub refusal_text : Refusal → List ℕ
+refusal_text e = decimal (refusal_number e) ++ (32 ∷ decimal (refusal_place e))
+
 -- the first that has another length than it should have
 abbrev pub wrong_length : (memory readings frame report : ℕ) → Option Lent
 wrong_length memory readings frame report =
@@ -41,26 +42,31 @@ wrong_length memory readings frame report =
     (Some Readings))
     (Some Memory)
 
+-- and it is refused
+abbrev pub refused_for : Option Lent → Result (Unit {0}) Refusal
+refused_for None = Ok tt
+refused_for (Some lent) = Err (Length lent)
+
 -- what a tick makes of the memory as it is read
 abbrev pub tick_of : (memory readings frame : List ℕ) → State
 tick_of memory readings frame = ticked (record { readings = readings; frame = frame }) (state_of (voted_words word_count memory))
 
-abbrev pub Says : Done → (memory readings frame report memory₁ report₁ : List ℕ) → Type 0
-Says Ticked m r f t m₁ t₁ =
+abbrev pub Says : Result (Unit {0}) Refusal → (memory readings frame report memory₁ report₁ : List ℕ) → Type 0
+Says (Ok u) m r f t m₁ t₁ =
     (wrong_length (length m) (length r) (length f) (length t) ≡ None) × Faultless (voted_words word_count m)
     × (m₁ ≡ thrice (words_of (tick_of m r f))) × (t₁ ≡ numbers_of (report_of (tick_of m r f)))
-Says (Refused (Length lent)) m r f t m₁ t₁ =
+Says (Err (Length lent)) m r f t m₁ t₁ =
     (wrong_length (length m) (length r) (length f) (length t) ≡ Some lent) × (m₁ ≡ m) × (t₁ ≡ t)
-Says (Refused (Unfit word)) m r f t m₁ t₁ =
+Says (Err (Unfit word)) m r f t m₁ t₁ =
     (wrong_length (length m) (length r) (length f) (length t) ≡ None) × Lowest (voted_words word_count m) (Some word) × (m₁ ≡ m) × (t₁ ≡ t)
 
 -- from every flight of fewer than 2^62 ticks, and every tolerated upset, that led to the lent memory: the call ticks, its memory goes on with that flight,
 -- and its report is the story's
-abbrev pub GoesOn : Done → (memory readings frame report memory₁ report₁ : List ℕ) → Type 0
+abbrev pub GoesOn : Result (Unit {0}) Refusal → (memory readings frame report memory₁ report₁ : List ℕ) → Type 0
 GoesOn d m r f t m₁ t₁ =
     (is : List Inputs) (kept : List ℕ) → Flew is kept → (threefold word_count).Upset kept m → length is < most →
     length r ≡ 16 → (length f ≡ 0) ⊎ (length f ≡ 12) → length t ≡ 8 →
-    (d ≡ Ticked) × Flew (record { readings = r; frame = f } ∷ is) m₁ × (t₁ ≡ numbers_of (report_of (after (record { readings = r; frame = f } ∷ is))))
+    (d ≡ Ok tt) × Flew (record { readings = r; frame = f } ∷ is) m₁ × (t₁ ≡ numbers_of (report_of (after (record { readings = r; frame = f } ∷ is))))
 
 -- at launch
 abbrev pub Launches : Result (Unit {0}) Refusal → (memory memory₁ : List ℕ) → Type 0

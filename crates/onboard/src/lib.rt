@@ -2,13 +2,14 @@
 
 #![tactic(auto)]
 
-ghost use Rattle.std.specs.Prelude.{◌≡◌};
-ghost use Rattle.onboard.specs.Entry.{refusal_number, refusal_place, wrong_length, Says, GoesOn, Launches};
+ghost use Rattle.std.specs.Prelude.{◌≡◌, Some};
+ghost use Rattle.onboard.specs.Entry.{refusal_number, refusal_place, refusal_text, wrong_length, refused_for, Says, GoesOn, Launches};
 
 use layout::{WORDS, fault};
 use memory::{Copies, store};
 use parameters::INSTRUMENTS;
 use satellite::Satellite;
+use std::fmt;
 use telemetry::Report as Telemetry;
 
 /// What a call is lent.
@@ -27,12 +28,6 @@ pub enum Refusal {
     Length(Lent),
     /// No lawful flight of fewer than 2^62 ticks leaves this word; it is the lowest such word.
     Unfit { word: usize },
-}
-
-#[derive(Clone, Copy, PartialEq, Eq, Debug, Drop)]
-pub enum Done {
-    Ticked,
-    Refused(Refusal),
 }
 
 impl Refusal {
@@ -58,6 +53,17 @@ impl Refusal {
     }
 }
 
+/// Its number and its place.
+impl fmt::Display for Refusal {
+    ghost output = { λ r. Some (refusal_text r) };
+
+    fn fmt<W: fmt::Write>(&self, f: &mut fmt::Formatter<W>) -> fmt::Result {
+        let number = self.number();
+        let place = self.place();
+        write!(f, "{number} {place}")
+    }
+}
+
 /// Writes the memory of a satellite at launch.
 pub fn launch(memory: &mut [u64]) -> Result<(), Refusal>
     ensures { Launches result memory.old memory.new }
@@ -70,37 +76,41 @@ pub fn launch(memory: &mut [u64]) -> Result<(), Refusal>
 }
 
 /// One tick: votes on the memory, does what the tick does, writes all of it back three times, and reports.
-pub fn tick(memory: &mut [u64], readings: &[u16], frame: &[u64], report: &mut [u64]) -> Done
+pub fn tick(
+    memory: &mut [u64],
+    readings: &[u16],
+    frame: &[u64],
+    report: &mut [u64],
+) -> Result<(), Refusal>
     ensures says { Says result memory.old readings.now frame.now report.old memory.new report.new }
     ensures flies { GoesOn result memory.old readings.now frame.now report.old memory.new report.new }
 {
-    if let Some(lent) = wrong_length(memory.len(), readings.len(), frame.len(), report.len()) {
-        return Done::Refused(Refusal::Length(lent));
-    }
+    check_lengths(memory.len(), readings.len(), frame.len(), report.len())?;
     let mut words = [0; WORDS];
     Copies::<WORDS>::new(memory).read(&mut words);
     if let Some(word) = fault(&words) {
-        return Done::Refused(Refusal::Unfit { word });
+        return Err(Refusal::Unfit { word });
     }
     let satellite = layout::satellite(&words).tick(readings, frame);
     store(memory, layout::words(satellite));
     report.copy_from_slice(&Telemetry::of(&satellite).numbers());
-    Done::Ticked
+    Ok(())
 }
 
-// The first that has another length than it should have.
-fn wrong_length(memory: usize, readings: usize, frame: usize, report: usize) -> Option<Lent>
-    ensures { result ≡ wrong_length memory readings frame report }
+// Refuses the first that has another length than it should have.
+fn check_lengths(memory: usize, readings: usize, frame: usize, report: usize) -> Result<(), Refusal>
+    ensures { result ≡ refused_for (wrong_length memory readings frame report) }
 {
-    if memory != 3 * WORDS {
-        Some(Lent::Memory)
+    let wrong = if memory != 3 * WORDS {
+        Lent::Memory
     } else if readings != INSTRUMENTS {
-        Some(Lent::Readings)
+        Lent::Readings
     } else if frame != 0 && frame != frame::LENGTH {
-        Some(Lent::Frame)
+        Lent::Frame
     } else if report != telemetry::LENGTH {
-        Some(Lent::Report)
+        Lent::Report
     } else {
-        None
-    }
+        return Ok(());
+    };
+    Err(Refusal::Length(wrong))
 }

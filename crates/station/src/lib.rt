@@ -33,11 +33,9 @@ impl Station {
         ensures latest { self.new.latest ≡ Some (later_of self.old.latest report) }
         ensures commands { self.new.commands ≡ self.old.commands }
     {
-        let kept = match self.latest {
-            Some(latest) if report.time < latest.time => latest,
-            _ => report,
-        };
-        self.latest = Some(kept);
+        if self.latest.is_none_or(|latest| latest.time <= report.time) {
+            self.latest = Some(report);
+        }
     }
 
     /// The frame to send next: of the command that the latest report expects; none if none is left.
@@ -51,10 +49,7 @@ impl Station {
     pub fn frame_for(&self, number: u64) -> Option<[u64; 12]>
         ensures { result ≡ frame_for self.now.commands.items number }
     {
-        if number >= self.commands.len() as u64 {
-            return None;
-        }
-        let command = self.commands[number as usize];
+        let command = *self.commands.get(number as usize)?;
         encode(Telecommand { number, command })
     }
 
@@ -62,20 +57,14 @@ impl Station {
     pub fn surely_obeyed(&self) -> u64
         ensures { result ≡ expected_of self.now.latest }
     {
-        match self.latest {
-            Some(report) => report.expected,
-            None => 0,
-        }
+        self.latest.map_or(0, |report| report.expected)
     }
 
     /// How many of those could not be done.
     pub fn known_rejected(&self) -> u64
         ensures { result ≡ rejected_of self.now.latest }
     {
-        match self.latest {
-            Some(report) => report.rejected,
-            None => 0,
-        }
+        self.latest.map_or(0, |report| report.rejected)
     }
 
     /// The report as of which all this is known.
@@ -87,22 +76,16 @@ impl Station {
 }
 
 /// What a report expects was obeyed before it, exactly and in order.
-pub fn obeyed_surely() -> u8
+pub fn obeyed_surely()
     ensures { SurelyObeyed }
-{
-    0
-}
+{}
 
 /// A named frame that comes up is obeyed in that tick.
-pub fn comes_through() -> u8
+pub fn comes_through()
     ensures { ComesThrough }
-{
-    0
-}
+{}
 
 /// Over a line that brings one frame in any d ticks, n commands are obeyed in at most d * n ticks.
-pub fn all_obeyed() -> u8
+pub fn all_obeyed()
     ensures { AllObeyed }
-{
-    0
-}
+{}

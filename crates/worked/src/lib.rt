@@ -3,7 +3,7 @@
 #![tactic(auto)]
 
 use frame::{Command, Telecommand, encode};
-use onboard::{Done, launch, tick};
+use onboard::{Refusal, launch, tick};
 use rules::Rule;
 use schedule::Activity;
 
@@ -12,7 +12,7 @@ use schedule::Activity;
 pub struct Craft {
     pub memory: [u64; 882],
     pub report: [u64; 8],
-    pub done: Done,
+    pub done: Result<(), Refusal>,
 }
 
 /// No instrument reads anything.
@@ -26,20 +26,14 @@ impl Craft {
         Craft {
             memory,
             report,
-            done: Done::Ticked,
+            done: Ok(()),
         }
     }
 
     /// One tick.
-    pub fn fly(self, readings: [u16; 16], frame: &[u64]) -> Craft {
-        let mut memory = self.memory;
-        let mut report = self.report;
-        let done = tick(&mut memory, &readings, frame, &mut report);
-        Craft {
-            memory,
-            report,
-            done,
-        }
+    pub fn fly(mut self, readings: [u16; 16], frame: &[u64]) -> Craft {
+        self.done = tick(&mut self.memory, &readings, frame, &mut self.report);
+        self
     }
 
     /// A tick in which no instrument reads anything and a command comes up.
@@ -66,10 +60,7 @@ impl Craft {
 
 /// The frame of a command; noughts where no frame can carry it.
 pub fn framed(number: u64, command: Command) -> [u64; 12] {
-    match encode(Telecommand { number, command }) {
-        Some(frame) => frame,
-        None => [0; 12],
-    }
+    encode(Telecommand { number, command }).unwrap_or([0; 12])
 }
 
 pub fn later(release: u64, place: u64, number: u64) -> Command {
@@ -115,7 +106,7 @@ mod tests {
     use super::*;
     use frame::decode;
     use memory::vote;
-    use onboard::{Lent, Refusal};
+    use onboard::Lent;
 
     #[test]
     fn two_of_three(rt: HostRuntime) {
@@ -239,19 +230,19 @@ mod tests {
         let mut report = [1, 2, 3, 4, 5, 6, 7, 8];
         assert_eq!(rt;
             tick(&mut [], &QUIET, &[], &mut report),
-            Done::Refused(Refusal::Length(Lent::Memory))
+            Err(Refusal::Length(Lent::Memory))
         );
         assert_eq!(rt;
             tick(&mut memory, &[0; 15], &[], &mut report),
-            Done::Refused(Refusal::Length(Lent::Readings))
+            Err(Refusal::Length(Lent::Readings))
         );
         assert_eq!(rt;
             tick(&mut memory, &QUIET, &[0; 11], &mut report),
-            Done::Refused(Refusal::Length(Lent::Frame))
+            Err(Refusal::Length(Lent::Frame))
         );
         assert_eq!(rt;
             tick(&mut memory, &QUIET, &[], &mut [0; 9]),
-            Done::Refused(Refusal::Length(Lent::Report))
+            Err(Refusal::Length(Lent::Report))
         );
         assert!(rt; memory == craft.memory);
         memory[70] = 2;
@@ -259,7 +250,7 @@ mod tests {
         let hit = memory;
         assert_eq!(rt;
             tick(&mut memory, &QUIET, &[], &mut report),
-            Done::Refused(Refusal::Unfit { word: 70 })
+            Err(Refusal::Unfit { word: 70 })
         );
         assert!(rt; memory == hit);
         assert_eq!(rt; report, [1, 2, 3, 4, 5, 6, 7, 8]);

@@ -1,4 +1,5 @@
-use Rattle.std.proofs.Common.{◌≡◌, ℕ, List, Some, sym, refl, ap, ◌∙◌, subst, arith, rules}
+use Rattle.std.proofs.Common.{◌≡◌, ℕ, List, Some, sym, refl, ap, ◌∙◌, subst, rules}
+use Rattle.std.proofs.lemmas.Result.{err_from_is_err_and}
 use Rattle.memory.specs.Threefold.{voted_words, thrice}
 use Rattle.satellite.specs.Model.{model}
 use Rattle.satellite.specs.Story.{ticked}
@@ -6,49 +7,26 @@ use Rattle.satellite.specs.Fit.{Fit}
 use Rattle.layout.specs.Map.{word_count}
 use Rattle.layout.specs.Fault.{Lowest}
 use Rattle.telemetry.specs.Reports.{numbers_of}
-use Rattle.onboard.specs.declared.Refusal.TheVariants.{Length, Unfit}
-use Rattle.onboard.specs.declared.Done.TheVariants.{Ticked, Refused}
-use Rattle.onboard.specs.Entry.{Says}
-use Rattle.onboard.proofs.Entering.{fit_of, goes_on, ticked_says}
+use Rattle.onboard.proofs.Entering.{fit_of, length_says, lengths_right, entered, ticked_says}
 use Rattle.onboard.proofs.tick.Goals as goal
 
 pub tick-satellite-requires : goal.tick-satellite-requires
-tick-satellite-requires c = record { sixteen = search rules; fit = subst Fit (sym c.satellite.ensures) (fit_of c.read.new.words c.in_default-fault.ensures) }
+tick-satellite-requires c = record { sixteen = search rules; fit = subst Fit (sym c.satellite.ensures) (fit_of c.read.new.words c.in_default.ensures) }
+
+pub returns-in_err-check_lengths : goal.returns-in_err-check_lengths
+returns-in_err-check_lengths c =
+    let p = err_from_is_err_and c.from_residual.result c.from_residual.ensures.1 in
+    rw (p.1, p.2) (entered _ _ _ _ _ _ _ c.type_inv.readings (length_says _ _ _ _ _ c.in_err-check_lengths.ensures))
 
 pub returns-in-Some : goal.returns-in-Some
 returns-in-Some c =
-    let m = c.args.memory.now in
-    let r = c.args.readings.now in
-    let f = c.args.frame.now in
-    let t = c.args.report.now in
-    let d = Refused (Length c.in-Some.lent) in
-    let says : Says d m r f t m t = (sym c.wrong_length.ensures ∙ c.in-Some.is, refl, refl) in
-    record { says = says; flies = goes_on d m r f t m t (λ k. let h = c.type_inv.readings k in omega arith) says }
-
-pub returns-in-Some-fault : goal.returns-in-Some-fault
-returns-in-Some-fault c =
-    let m = c.args.memory.now in
-    let r = c.args.readings.now in
-    let f = c.args.frame.now in
-    let t = c.args.report.now in
-    let d = Refused (Unfit c.in-Some-fault.word) in
-    let e : c.read.new.words ≡ voted_words word_count m = c.read.ensures ∙ ap (voted_words word_count) c.new.ensures in
-    let says : Says d m r f t m t =
-    (sym c.wrong_length.ensures ∙ c.in_default.is, subst (λ (ws : List ℕ). Lowest ws (Some c.in-Some-fault.word)) e c.in-Some-fault.ensures, refl, refl) in
-    record { says = says; flies = goes_on d m r f t m t (λ k. let h = c.type_inv.readings k in omega arith) says }
+    let e : c.read.new.words ≡ voted_words word_count c.args.memory.now = c.read.ensures ∙ ap (voted_words word_count) c.new.ensures in
+    entered _ _ _ _ _ _ _ c.type_inv.readings (lengths_right _ c.in_ok-check_lengths.ensures, subst (λ (ws : List ℕ). Lowest ws (Some c.in-Some.word)) e c.in-Some.ensures, refl, refl)
 
 pub returns : goal.returns
 returns c =
-    let m = c.args.memory.now in
-    let r = c.args.readings.now in
-    let f = c.args.frame.now in
-    let t = c.args.report.now in
-    let m₁ = c.store.new.memory in
-    let t₁ = c.copy_from_slice.new.self in
-    let s = model c.tick-satellite.result in
-    let says : Says Ticked m r f t m₁ t₁ =
-    ticked_says m r f t m₁ t₁ c.read.new.words s (sym c.wrong_length.ensures ∙ c.in_default.is)
-    (c.read.ensures ∙ ap (voted_words word_count) c.new.ensures) c.in_default-fault.ensures
-    (c.tick-satellite.ensures ∙ ap (ticked (record { readings = r; frame = f })) c.satellite.ensures)
-    (c.store.ensures ∙ ap thrice c.words.ensures) (c.copy_from_slice.ensures.after ∙ c.numbers.ensures.value ∙ ap numbers_of c.of.ensures) in
-    record { says = says; flies = goes_on Ticked m r f t m₁ t₁ (λ k. let h = c.type_inv.readings k in omega arith) says }
+    entered _ _ _ _ _ _ _ c.type_inv.readings
+    (ticked_says _ _ _ _ _ _ c.read.new.words (model c.tick-satellite.result) (lengths_right _ c.in_ok-check_lengths.ensures)
+    (c.read.ensures ∙ ap (voted_words word_count) c.new.ensures) c.in_default.ensures
+    (c.tick-satellite.ensures ∙ ap (ticked (record { readings = c.args.readings.now; frame = c.args.frame.now })) c.satellite.ensures)
+    (c.store.ensures ∙ ap thrice c.words.ensures) (c.copy_from_slice.ensures.after ∙ c.numbers.ensures.value ∙ ap numbers_of c.of.ensures))

@@ -16,10 +16,10 @@ loop-event-init c =
 
 pub loop-event-preserved : goal.loop-event-preserved
 loop-event-preserved c =
-    elim c.match-stepped.branch [
-      | in-Some+in_ok-push w ↦ run_more c.args.events.now c.loop-event.event-index _ c.loop-event.aloft _ _ (vec_items c.loop-event.outputs) (vec_items c.match-stepped.outputs) c.loop-event-test.true c.loop-event.invariant c.step-stepped.ensures
+    elim c.match-step.branch [
+      | in-Some+in_ok-push w ↦ run_more c.args.events.now c.loop-event.event-index _ c.loop-event.aloft _ _ (vec_items c.loop-event.outputs) (vec_items c.match-step.outputs) c.loop-event-test.true c.loop-event.invariant c.step.ensures
           (outputs_more _ w.in-Some.output _ _ w.in-Some.is (ap vec_items w.outputs-is ∙ pushed (w.in-Some.output ∷ []) refl w.in_ok-push.was w.push.ensures.items))
-      | in_default w ↦ run_more c.args.events.now c.loop-event.event-index _ c.loop-event.aloft _ _ (vec_items c.loop-event.outputs) (vec_items c.match-stepped.outputs) c.loop-event-test.true c.loop-event.invariant c.step-stepped.ensures
+      | in_default w ↦ run_more c.args.events.now c.loop-event.event-index _ c.loop-event.aloft _ _ (vec_items c.loop-event.outputs) (vec_items c.match-step.outputs) c.loop-event-test.true c.loop-event.invariant c.step.ensures
           (outputs_same _ _ _ w.in_default.is (ap vec_items w.outputs-is))
     ]
 

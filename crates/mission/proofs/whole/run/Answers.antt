@@ -28,8 +28,8 @@ onward g c =
           same took c.loop-event.heard _ c.loop-event.aloft _ c.loop-event.out _ w.heard-is w.aloft-is w.out-is (silent took c.loop-event.invariant l (subst (Reads _ _) w.in-Nothing.is c.in_ok-read_line.ensures))
       | in-Said+in_ok-tell-in-Said w ↦
           let r = subst (Reads _ _) w.in-Said.is c.in_ok-read_line.ensures in
-          same took (after c.loop-event.heard w.in-Said.event) _ w.step-stepped.result.aloft _ w.tell.new.out _ (w.heard-is ∙ w.heard_after-heard.ensures) w.aloft-is w.out-is
-          (flown took c.loop-event.invariant l w.in-Said.event w.step-stepped.result.aloft w.step-stepped.result.output w.tell.new.out r.0 r.1 w.step-stepped.ensures (λ p. w.tell.ensures p (ok_is _ _ w.in_ok-tell-in-Said.was)))
+          same took (after c.loop-event.heard w.in-Said.event) _ w.step.new.self _ w.tell.new.out _ (w.heard-is ∙ w.heard_after-heard.ensures) w.aloft-is w.out-is
+          (flown took c.loop-event.invariant l w.in-Said.event w.step.new.self w.step.result w.tell.new.out r.0 r.1 w.step.ensures (λ p. w.tell.ensures p (ok_is _ _ w.in_ok-tell-in-Said.was)))
     ]
 
 pub returns-in-Unread : goal.returns-in-Unread
