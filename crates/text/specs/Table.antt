@@ -29,14 +29,22 @@ event_words (Event.Frame xs) = Frame ∷ map Number xs
 event_words (Event.Hit c w v) = Hit ∷ Number c ∷ Number w ∷ Number v ∷ []
 event_words Event.Tick = Tick ∷ []
 
+-- what has these words; if there is none, nothing that passes has them
+abbrev pub Found : {E : Type 0} → (E → List Word) → (E → Bool) → List Word → Option E → Type 0
+Found {E} table passes ws None = (e : E) → passes e ≡ true → ws ≢ table e
+Found table passes ws (Some e) = ws ≡ table e
+
+-- and what is found passes
+abbrev pub Finds : {E : Type 0} → (E → List Word) → (E → Bool) → List Word → Option E → Type 0
+Finds {E} table passes ws None = (e : E) → passes e ≡ true → ws ≢ table e
+Finds table passes ws (Some e) = (passes e ≡ true) × (ws ≡ table e)
+
 -- what words are read as: the event that has them; if there is none, none that may be said has them
 abbrev pub Events : List Word → Option Event → Type 0
-Events ws None = (e : Event) → bounded e ≡ true → ws ≢ event_words e
-Events ws (Some e) = ws ≡ event_words e
+Events ws o = Found event_words bounded ws o
 
 abbrev pub Commands : List Word → Option Command → Type 0
-Commands ws None = (c : Command) → command_bounded c ≡ true → ws ≢ command_words c
-Commands ws (Some c) = ws ≡ command_words c
+Commands ws o = Found command_words command_bounded ws o
 
 abbrev pub amount : Word → Option ℕ
 amount (Number n) = Some n
