@@ -64,8 +64,8 @@ impl Hits {
                 let mut hit = *flight;
                 hit.hit(a, word, *first);
                 hit.hit(b, word, *second);
-                self.refused += u64::from(tick_anywhere(hit.memory(), &inputs(flight))?);
                 self.unlawful += 1;
+                self.refused += u64::from(tick_anywhere(hit.memory(), &inputs(flight))?);
             }
         }
         Ok(())

@@ -203,7 +203,8 @@ impl Story {
         }
     }
 
-    // Does what a frame commands, or says that it cannot be done.
+    // Does what a frame commands, or says that it cannot be done. A kind is the number that the description gives it:
+    // a frame may have any.
     fn obeys(&mut self, frame: &[u64; 12]) -> bool {
         let [_, kind, a, b, c, d, e, f, g, h, _, _] = *frame;
         match kind {
