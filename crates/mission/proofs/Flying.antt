@@ -126,22 +126,20 @@ tick_right es a b o os l short h t =
       told = λ j. (t.told ∙ ap (λ (x : Result (Unit {0}) Refusal). output_of x t.report) d ∙ ap (λ (x : List ℕ). output_of (Ok tt) x) (on.2 ∙ ap (λ (x : Inputs). numbers_of (report_of (after (x ∷ history es)))) same)) j ∷ h.told j;
     }
 
-silently : (o : Option Output) (os : List Output) → o ≡ None → and_then o os ≡ os
-silently o os e = ap (λ (x : Option Output). and_then x os) e
+-- an event that is no tick gives nothing and leaves this
+silently : {es : List Event} {b c : Aloft} {o : Option Output} {os : List Output} → (o ≡ None) × (b ≡ c) → AloftRight es c os → AloftRight es b (and_then o os)
+silently {es = es} {b = b} {os = os} s h =
+    subst (λ (x : List Output). AloftRight es b x) (sym (ap (λ (x : Option Output). and_then x os) s.0)) (subst (λ (x : Aloft). AloftRight es x os) (sym s.1) h)
 
 step_right : (e : Event) (es : List Event) (a b : Aloft) (o : Option Output) (os : List Output) → Tolerated (e ∷ es) → length (history es) < most → AloftRight es a os → Steps a e b o → AloftRight (e ∷ es) b (and_then o os)
 step_right (Event.Read i v) es a b o os l short h s =
-    subst (λ (x : List Output). AloftRight (Event.Read i v ∷ es) b x) (sym (silently o os s.0)) (subst (λ (x : Aloft). AloftRight (Event.Read i v ∷ es) x os) (sym s.1)
-    (record { kept = h.kept; flew = h.flew; scarred = h.scarred; readings = ap (with_reading i v) h.readings; frame = h.frame; told = h.told }))
+    silently s (record { kept = h.kept; flew = h.flew; scarred = h.scarred; readings = ap (with_reading i v) h.readings; frame = h.frame; told = h.told })
 step_right (Event.Up n c) es a b o os l short h s =
-    subst (λ (x : List Output). AloftRight (Event.Up n c ∷ es) b x) (sym (silently o os s.0)) (subst (λ (x : Aloft). AloftRight (Event.Up n c ∷ es) x os) (sym s.1)
-    (record { kept = h.kept; flew = h.flew; scarred = h.scarred; readings = h.readings; frame = ap (with_frame (up_frame n c)) h.frame; told = h.told }))
+    silently s (record { kept = h.kept; flew = h.flew; scarred = h.scarred; readings = h.readings; frame = ap (with_frame (up_frame n c)) h.frame; told = h.told })
 step_right (Event.Frame f) es a b o os l short h s =
-    subst (λ (x : List Output). AloftRight (Event.Frame f ∷ es) b x) (sym (silently o os s.0)) (subst (λ (x : Aloft). AloftRight (Event.Frame f ∷ es) x os) (sym s.1)
-    (record { kept = h.kept; flew = h.flew; scarred = h.scarred; readings = h.readings; frame = refl; told = h.told }))
+    silently s (record { kept = h.kept; flew = h.flew; scarred = h.scarred; readings = h.readings; frame = refl; told = h.told })
 step_right (Event.Hit c w v) es a b o os l short h s =
-    subst (λ (x : List Output). AloftRight (Event.Hit c w v ∷ es) b x) (sym (silently o os s.0)) (subst (λ (x : Aloft). AloftRight (Event.Hit c w v ∷ es) x os) (sym s.1)
-    (record { kept = h.kept; flew = h.flew; scarred = hit_scar (hits es) h.kept a.memory c w v h.scarred; readings = h.readings; frame = h.frame; told = h.told }))
+    silently s (record { kept = h.kept; flew = h.flew; scarred = hit_scar (hits es) h.kept a.memory c w v h.scarred; readings = h.readings; frame = h.frame; told = h.told })
 step_right Event.Tick es a b o os l short h s =
     subst (λ (x : List Output). AloftRight (Event.Tick ∷ es) b x) (sym (ap (λ (x : Option Output). and_then x os) s.1)) (tick_right es a b s.0 os l short h s.2)
 

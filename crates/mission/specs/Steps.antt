@@ -53,10 +53,10 @@ pub record Ticks (a b : Aloft) (o : Output) : Type 0 where
   pub frame : b.frame ≡ None
 
 abbrev pub Steps : Aloft → Event → Aloft → Option Output → Type 0
-Steps a (Event.Read i v) b o = (o ≡ None) × (b ≡ record { memory = a.memory; readings = with_reading i v a.readings; frame = a.frame })
-Steps a (Event.Up n c) b o = (o ≡ None) × (b ≡ record { memory = a.memory; readings = a.readings; frame = with_frame (up_frame n c) a.frame })
-Steps a (Event.Frame f) b o = (o ≡ None) × (b ≡ record { memory = a.memory; readings = a.readings; frame = Some f })
-Steps a (Event.Hit c w v) b o = (o ≡ None) × (b ≡ record { memory = with_hit c w v a.memory; readings = a.readings; frame = a.frame })
+Steps a (Event.Read i v) b o = (o ≡ None) × (b ≡ record a { readings = with_reading i v a.readings })
+Steps a (Event.Up n c) b o = (o ≡ None) × (b ≡ record a { frame = with_frame (up_frame n c) a.frame })
+Steps a (Event.Frame f) b o = (o ≡ None) × (b ≡ record a { frame = Some f })
+Steps a (Event.Hit c w v) b o = (o ≡ None) × (b ≡ record a { memory = with_hit c w v a.memory })
 Steps a Event.Tick b o = (x : Output) × (o ≡ Some x) × Ticks a b x
 
 abbrev pub and_then : Option Output → List Output → List Output

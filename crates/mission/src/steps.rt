@@ -41,7 +41,7 @@ impl Aloft {
 
     // An instrument reads a value in the next tick.
     fn read(&mut self, instrument: u64, value: u64)
-        ensures { self.new ≡ record { memory = self.old.memory; readings = with_reading instrument value self.old.readings; frame = self.old.frame } }
+        ensures { self.new ≡ record self.old { readings = with_reading instrument value self.old.readings } }
     {
         if instrument < 16 && value < 0x1_0000 {
             self.readings[instrument as usize] = value as u16;
@@ -50,7 +50,7 @@ impl Aloft {
 
     // The frame of a telecommand comes up in the next tick.
     fn up(&mut self, number: u64, command: Command)
-        ensures { self.new ≡ record { memory = self.old.memory; readings = self.old.readings; frame = with_frame (up_frame number command) self.old.frame } }
+        ensures { self.new ≡ record self.old { frame = with_frame (up_frame number command) self.old.frame } }
     {
         if let Some(frame) = encode(Telecommand { number, command }) {
             self.hear(frame);
@@ -59,14 +59,14 @@ impl Aloft {
 
     // These numbers come up in the next tick.
     fn hear(&mut self, numbers: [u64; 12])
-        ensures { self.new ≡ record { memory = self.old.memory; readings = self.old.readings; frame = Some numbers } }
+        ensures { self.new ≡ record self.old { frame = Some numbers } }
     {
         self.frame = Some(numbers);
     }
 
     // Radiation changes a copy of a word.
     fn hit(&mut self, copy: u64, word: u64, value: u64)
-        ensures { self.new ≡ record { memory = with_hit copy word value self.old.memory; readings = self.old.readings; frame = self.old.frame } }
+        ensures { self.new ≡ record self.old { memory = with_hit copy word value self.old.memory } }
     {
         if copy < 3 && word < WORDS as u64 {
             self.memory[copy as usize * WORDS + word as usize] = value;

@@ -76,6 +76,7 @@ pub fn launch(memory: &mut [u64]) -> Result<(), Refusal>
 }
 
 /// One tick: votes on the memory, does what the tick does, writes all of it back three times, and reports.
+/// It takes four slices, as a board written in C lends them.
 pub fn tick(
     memory: &mut [u64],
     readings: &[u16],

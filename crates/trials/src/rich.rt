@@ -3,16 +3,16 @@
 use crate::frames::{Order, framed};
 use crate::trial::{Difference, Flight, Inputs};
 
-// The kind and the first arguments of the commands that come first.
-const FIRST: [[u64; 9]; 8] = [
-    [4, 0, 0, 0, 0, 0, 0, 0, 0],
-    [0, 16, 1234, 0, 0, 0, 0, 0, 0],
-    [0, 63, 0xffff_ffff, 0, 0, 0, 0, 0, 0],
-    [5, 0, 2, 10, 1, 38, 0, 20, 77],
-    [5, 1, 2, 10, 0, 3, 0, 21, 78],
-    [5, 7, 16, 1000, 1, 0xffff_ffff, 1, 0, 0],
-    [5, 15, 63, 8, 0, 2, 1, 64, 79],
-    [7, 1, 2, 3, 4, 5, 6, 7, 8],
+// The commands that come first.
+const FIRST: [Order; 8] = [
+    [4, 0, 0, 0, 0, 0, 0, 0, 0, 0],
+    [0, 16, 1234, 0, 0, 0, 0, 0, 0, 0],
+    [0, 63, 0xffff_ffff, 0, 0, 0, 0, 0, 0, 0],
+    [5, 0, 2, 10, 1, 38, 0, 20, 77, 0],
+    [5, 1, 2, 10, 0, 3, 0, 21, 78, 0],
+    [5, 7, 16, 1000, 1, 0xffff_ffff, 1, 0, 0, 0],
+    [5, 15, 63, 8, 0, 2, 1, 64, 79, 0],
+    [7, 1, 2, 3, 4, 5, 6, 7, 8, 0],
 ];
 
 /// How many activities wait in the end.
@@ -20,15 +20,12 @@ const ACTIVITIES: u64 = 31;
 
 pub fn rich() -> Result<Flight, Difference> {
     let mut flight = Flight::launched()?;
-    for k in 0..8 {
-        let [kind, a, b, c, d, e, f, g, h] = FIRST[k];
-        let arguments = [a, b, c, d, e, f, g, h, 0];
-        command(&mut flight, Order { kind, arguments })?;
+    for order in FIRST {
+        command(&mut flight, order)?;
     }
     for k in 0..ACTIVITIES {
         let release = 42 + k / 2;
-        let arguments = [release, 16 + k, 500 + k, 0, 0, 0, 0, 0, 0];
-        command(&mut flight, Order { kind: 1, arguments })?;
+        command(&mut flight, [1, release, 16 + k, 500 + k, 0, 0, 0, 0, 0, 0])?;
     }
     Ok(flight)
 }
@@ -48,9 +45,9 @@ pub const QUIET: Inputs = Inputs {
 };
 
 fn command(flight: &mut Flight, order: Order) -> Result<(), Difference> {
-    let number = flight.story.expected;
+    let frame = framed(flight.story.expected, order);
     flight.tick(&Inputs {
-        readings: [10; 16],
-        frame: Some(framed(number, order)),
+        frame: Some(frame),
+        ..QUIET
     })
 }

@@ -2,129 +2,155 @@
 use crate::frames::{Order, framed};
 use crate::rich::rich;
 use crate::story::Story;
-use crate::trial::{Difference, Flight, Inputs, WORDS};
+use crate::trial::{Difference, Flight, Inputs, Trial, WORDS};
+use std::fmt;
+use std::num::Wrapping;
 
-/// How many ticks a history has at most.
-pub const TICKS: u8 = 4;
+// How many ticks a history has at most.
+const TICKS: u8 = 4;
 
-/// How many letters the alphabet has.
-pub const LETTERS: usize = QUIET + COMMANDS.len() + ODD;
+const WAKE: Order = [4, 0, 0, 0, 0, 0, 0, 0, 0, 0];
 
-// Letters in which no frame comes up: instrument 2 reads 9, 10 or 11, or one copy of every word is hit.
-const QUIET: usize = 6;
+// What a tick is given.
+#[derive(Clone, Copy)]
+enum Letter {
+    // No frame comes up, and the instruments read this.
+    Reading(u16),
+    // No frame comes up, and this copy of every word is hit.
+    Hit(usize),
+    // A command with the number that is expected.
+    Command(Order),
+    // The same of a `later`: how many ticks ahead, the place and the number.
+    Later(u64, u64, u64),
+    // Frames that are not heeded: too early, doubled, damaged, and with a number that is too large.
+    TooEarly,
+    Doubled,
+    Damaged,
+    TooLarge,
+}
 
-// Letters of frames that are not heeded: too early, doubled, damaged, and with a number that is too large.
-const ODD: usize = 4;
-
-// Commands, each with the number that is expected: kind and first arguments. Times count from this tick.
-const COMMANDS: [[u64; 9]; 23] = [
-    [0, 16, 9, 0, 0, 0, 0, 0, 0],
-    [0, 63, 8, 0, 0, 0, 0, 0, 0],
+const ALPHABET: [Letter; 33] = [
+    Letter::Reading(9),
+    Letter::Reading(10),
+    Letter::Reading(11),
+    Letter::Hit(0),
+    Letter::Hit(1),
+    Letter::Hit(2),
+    Letter::Command([0, 16, 9, 0, 0, 0, 0, 0, 0, 0]),
+    Letter::Command([0, 63, 8, 0, 0, 0, 0, 0, 0, 0]),
     // an instrument, and past the last place: rejected
-    [0, 15, 1, 0, 0, 0, 0, 0, 0],
-    [0, 64, 1, 0, 0, 0, 0, 0, 0],
-    [1, 1, 16, 5, 0, 0, 0, 0, 0],
-    [1, 2, 63, 6, 0, 0, 0, 0, 0],
+    Letter::Command([0, 15, 1, 0, 0, 0, 0, 0, 0, 0]),
+    Letter::Command([0, 64, 1, 0, 0, 0, 0, 0, 0, 0]),
+    Letter::Later(1, 16, 5),
+    Letter::Later(2, 63, 6),
     // now, for an instrument, and past the last place: rejected
-    [1, 0, 16, 1, 0, 0, 0, 0, 0],
-    [1, 1, 15, 1, 0, 0, 0, 0, 0],
-    [1, 1, 64, 1, 0, 0, 0, 0, 0],
-    [2, 0, 0, 0, 0, 0, 0, 0, 0],
-    [3, 0, 0, 0, 0, 0, 0, 0, 0],
-    [4, 0, 0, 0, 0, 0, 0, 0, 0],
+    Letter::Later(0, 16, 1),
+    Letter::Later(1, 15, 1),
+    Letter::Later(1, 64, 1),
+    Letter::Command([2, 0, 0, 0, 0, 0, 0, 0, 0, 0]),
+    Letter::Command([3, 0, 0, 0, 0, 0, 0, 0, 0, 0]),
+    Letter::Command(WAKE),
     // at 10 and above for a tick to safe mode; at 10 and below for two ticks 9 at 16; that in turn 3 at 63
-    [5, 0, 2, 10, 1, 1, 1, 0, 0],
-    [5, 1, 2, 10, 0, 2, 0, 16, 9],
-    [5, 15, 16, 9, 1, 1, 0, 63, 3],
+    Letter::Command([5, 0, 2, 10, 1, 1, 1, 0, 0, 0]),
+    Letter::Command([5, 1, 2, 10, 0, 2, 0, 16, 9, 0]),
+    Letter::Command([5, 15, 16, 9, 1, 1, 0, 63, 3, 0]),
     // off
-    [5, 0, 63, 0, 1, 0, 0, 16, 0],
+    Letter::Command([5, 0, 63, 0, 1, 0, 0, 16, 0, 0]),
     // no such rule, no such parameter, an instrument, past the last place, a mark that is no mark: rejected
-    [5, 16, 2, 10, 1, 1, 1, 0, 0],
-    [5, 0, 64, 10, 1, 1, 1, 0, 0],
-    [5, 0, 2, 10, 1, 1, 0, 15, 0],
-    [5, 0, 2, 10, 1, 1, 0, 64, 0],
-    [5, 0, 2, 10, 1, 1, 2, 0, 0],
+    Letter::Command([5, 16, 2, 10, 1, 1, 1, 0, 0, 0]),
+    Letter::Command([5, 0, 64, 10, 1, 1, 1, 0, 0, 0]),
+    Letter::Command([5, 0, 2, 10, 1, 1, 0, 15, 0, 0]),
+    Letter::Command([5, 0, 2, 10, 1, 1, 0, 64, 0, 0]),
+    Letter::Command([5, 0, 2, 10, 1, 1, 2, 0, 0, 0]),
     // of no kind: rejected
-    [6, 0, 0, 0, 0, 0, 0, 0, 0],
-    [0xffff_ffff, 16, 1, 0, 0, 0, 0, 0, 0],
+    Letter::Command([6, 0, 0, 0, 0, 0, 0, 0, 0, 0]),
+    Letter::Command([0xffff_ffff, 16, 1, 0, 0, 0, 0, 0, 0, 0]),
+    Letter::TooEarly,
+    Letter::Doubled,
+    Letter::Damaged,
+    Letter::TooLarge,
 ];
 
-const WAKE: Order = Order {
-    kind: 4,
-    arguments: [0; 9],
-};
-
-/// Flies every short history from launch, and from a flight in which one more activity can wait. Counts the ticks.
-pub fn run(ticks: &mut u64) -> Result<(), Difference> {
-    explore(&Flight::launched()?, TICKS, ticks)?;
-    explore(&rich()?, TICKS, ticks)
+/// Every short history from launch, and from a flight in which one more activity can wait.
+#[derive(Default, Drop)]
+pub struct ShortFlights {
+    histories: Wrapping<u64>,
 }
 
-// Every history of up to so many ticks, each going on from the one before its last tick.
-fn explore(flight: &Flight, left: u8, ticks: &mut u64) -> Result<(), Difference> {
-    if left == 0 {
-        return Ok(());
+impl Trial for ShortFlights {
+    fn run(&mut self) -> Result<(), Difference> {
+        self.explore(&Flight::launched()?, TICKS)?;
+        self.explore(&rich()?, TICKS)
     }
-    for letter in 0..LETTERS {
-        let mut next = *flight;
-        step(&mut next, letter)?;
-        *ticks = ticks.wrapping_add(1);
-        explore(&next, left - 1, ticks)?;
-    }
-    Ok(())
 }
 
-fn step(flight: &mut Flight, letter: usize) -> Result<(), Difference> {
-    let reading = if letter < 3 { 9 + letter as u16 } else { 10 };
-    if letter >= 3 && letter < QUIET {
-        radiate(flight, letter - 3);
+impl fmt::Display for ShortFlights {
+    fn fmt<W: fmt::Write>(&self, f: &mut fmt::Formatter<W>) -> fmt::Result {
+        let inputs = ALPHABET.len();
+        let histories = self.histories;
+        write!(
+            f,
+            "short flights: all of up to {TICKS} ticks over {inputs} inputs, from launch and from a rich flight, {histories} histories"
+        )
     }
-    let frame = frame_of(letter, &flight.story);
-    flight.tick(&Inputs {
-        readings: [reading; 16],
-        frame,
-    })
+}
+
+impl ShortFlights {
+    // Every history of up to so many ticks, each going on from the one before its last tick.
+    fn explore(&mut self, flight: &Flight, left: u8) -> Result<(), Difference> {
+        if left == 0 {
+            return Ok(());
+        }
+        for letter in ALPHABET {
+            let mut next = *flight;
+            letter.step(&mut next)?;
+            self.histories += 1;
+            self.explore(&next, left - 1)?;
+        }
+        Ok(())
+    }
+}
+
+impl Letter {
+    fn step(self, flight: &mut Flight) -> Result<(), Difference> {
+        let reading = match self {
+            Letter::Reading(value) => value,
+            _ => 10,
+        };
+        if let Letter::Hit(copy) = self {
+            radiate(flight, copy);
+        }
+        let frame = self.frame(&flight.story);
+        flight.tick(&Inputs {
+            readings: [reading; 16],
+            frame,
+        })
+    }
+
+    fn frame(self, story: &Story) -> Option<[u64; 12]> {
+        let expected = story.expected;
+        Some(match self {
+            Letter::Reading(_) | Letter::Hit(_) => return None,
+            Letter::Command(order) => framed(expected, order),
+            Letter::Later(ahead, place, number) => {
+                let release = story.time.wrapping_add(1).wrapping_add(ahead);
+                framed(expected, [1, release, place, number, 0, 0, 0, 0, 0, 0])
+            }
+            Letter::TooEarly => framed(expected.wrapping_add(1), WAKE),
+            Letter::Doubled => framed(expected.wrapping_sub(1) & 0xffff_ffff, WAKE),
+            Letter::Damaged => {
+                let mut frame = framed(expected, WAKE);
+                frame[11] ^= 1;
+                frame
+            }
+            Letter::TooLarge => framed(expected, [4, 0x1_0000_0000, 0, 0, 0, 0, 0, 0, 0, 0]),
+        })
+    }
 }
 
 // One copy of every word becomes another number.
 fn radiate(flight: &mut Flight, copy: usize) {
     for word in 0..WORDS {
-        let kept = flight.memory[word];
-        flight.hit(copy, word, kept.wrapping_add(1));
-    }
-}
-
-fn frame_of(letter: usize, story: &Story) -> Option<[u64; 12]> {
-    if letter < QUIET {
-        return None;
-    }
-    let place = letter - QUIET;
-    if place < COMMANDS.len() {
-        let now = story.time.wrapping_add(1);
-        return Some(framed(story.expected, order(COMMANDS[place], now)));
-    }
-    Some(odd(place - COMMANDS.len(), story.expected))
-}
-
-fn order(numbers: [u64; 9], now: u64) -> Order {
-    let [kind, a, b, c, d, e, f, g, h] = numbers;
-    let first = if kind == 1 { a.wrapping_add(now) } else { a };
-    let arguments = [first, b, c, d, e, f, g, h, 0];
-    Order { kind, arguments }
-}
-
-fn odd(which: usize, expected: u64) -> [u64; 12] {
-    match which {
-        0 => framed(expected.wrapping_add(1), WAKE),
-        1 => framed(expected.wrapping_sub(1) & 0xffff_ffff, WAKE),
-        2 => {
-            let mut frame = framed(expected, WAKE);
-            frame[11] ^= 1;
-            frame
-        }
-        _ => {
-            let arguments = [0x1_0000_0000, 0, 0, 0, 0, 0, 0, 0, 0];
-            framed(expected, Order { kind: 4, arguments })
-        }
+        flight.hit(copy, word, flight.word(word).wrapping_add(1));
     }
 }

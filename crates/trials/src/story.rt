@@ -1,58 +1,112 @@
 //! The story of the satellite told again, plainly and with everything kept once, to compare flights with.
+ghost use Rattle.std.specs.Prelude.{◌<◌};
 
-/// An activity that waits for its time.
+use std::mem;
+
+// An activity that waits for its time.
 #[derive(Clone, Copy)]
-pub struct Waiting {
-    pub release: u64,
-    pub place: u64,
-    pub number: u64,
+struct Waiting {
+    release: u64,
+    place: u64,
+    number: u64,
 }
 
 /// A rule, and for how many ticks in a row it has been past its limit.
-#[derive(Clone, Copy)]
+#[derive(Clone, Copy, Default)]
 pub struct Watch {
-    pub watches: u64,
-    pub limit: u64,
-    pub upward: bool,
-    pub needs: u64,
-    pub safes: bool,
-    pub place: u64,
-    pub number: u64,
-    pub count: u64,
+    watches: u64,
+    limit: u64,
+    upward: bool,
+    needs: u64,
+    safes: bool,
+    place: u64,
+    number: u64,
+    count: u64,
 }
 
 #[derive(Clone, Copy)]
 pub struct Story {
     pub time: u64,
     pub expected: u64,
-    pub safe_mode: bool,
+    safe_mode: bool,
     pub rejected: u64,
     pub missed: u64,
-    pub parameters: [u64; 64],
-    pub activities: [Waiting; 32],
-    pub waiting: usize,
+    parameters: [u64; 64],
+    // In their order, the first places taken.
+    activities: [Option<Waiting>; 32],
     pub watches: [Watch; 16],
 }
 
 /// No number of a flight of fewer than 2^62 ticks is larger.
 pub const LARGEST: u64 = 0x4000_0000_0000_0000;
 
-const NOTHING: Waiting = Waiting {
-    release: 0,
-    place: 0,
-    number: 0,
-};
+/// As three words of memory, or the arguments of a frame, have it.
+impl From<[u64; 3]> for Waiting {
+    fn from([release, place, number]: [u64; 3]) -> Waiting {
+        Waiting {
+            release,
+            place,
+            number,
+        }
+    }
+}
 
-const OFF: Watch = Watch {
-    watches: 0,
-    limit: 0,
-    upward: false,
-    needs: 0,
-    safes: false,
-    place: 0,
-    number: 0,
-    count: 0,
-};
+impl From<Waiting> for [u64; 3] {
+    fn from(activity: Waiting) -> [u64; 3] {
+        [activity.release, activity.place, activity.number]
+    }
+}
+
+/// As seven words of memory, or the arguments of a frame, have it. Nothing is counted yet.
+impl From<[u64; 7]> for Watch {
+    fn from([watches, limit, upward, needs, safes, place, number]: [u64; 7]) -> Watch {
+        Watch {
+            watches,
+            limit,
+            upward: upward == 1,
+            needs,
+            safes: safes == 1,
+            place,
+            number,
+            count: 0,
+        }
+    }
+}
+
+impl From<Watch> for [u64; 7] {
+    fn from(watch: Watch) -> [u64; 7] {
+        [
+            watch.watches,
+            watch.limit,
+            u64::from(watch.upward),
+            watch.needs,
+            u64::from(watch.safes),
+            watch.place,
+            watch.number,
+        ]
+    }
+}
+
+impl Watch {
+    // In a tick in which what it watches has this value.
+    fn see(&mut self, value: u64) {
+        let is_past = if self.upward {
+            self.limit <= value
+        } else {
+            value <= self.limit
+        };
+        self.count = if is_past {
+            self.count.wrapping_add(1)
+        } else {
+            0
+        };
+    }
+
+    /// Whether it acts in this tick.
+    pub fn acts(&self) -> bool {
+        self.needs > 0 && self.needs == self.count
+    }
+}
 
 impl Story {
     pub fn at_launch() -> Story {
@@ -63,19 +117,16 @@ impl Story {
             rejected: 0,
             missed: 0,
             parameters: [0; 64],
-            activities: [NOTHING; 32],
-            waiting: 0,
-            watches: [OFF; 16],
+            activities: [None; 32],
+            watches: [Watch::default(); 16],
         }
     }
 
     /// One tick: the instruments, the rules, what is due, and the frame that came up.
-    pub fn tick(&mut self, readings: &[u16; 16], frame: &Option<[u64; 12]>) {
+    pub fn tick(&mut self, readings: &[u16; 16], frame: Option<&[u64; 12]>) {
         self.time = self.time.wrapping_add(1);
         self.read(readings);
-        for k in 0..16 {
-            self.watch(k);
-        }
+        self.watch();
         self.release();
         if let Some(numbers) = frame {
             self.hear(numbers);
@@ -83,31 +134,28 @@ impl Story {
     }
 
     fn read(&mut self, readings: &[u16; 16]) {
-        for i in 0..16 {
-            self.parameters[i] = u64::from(readings[i]);
+        for (parameter, reading) in self.parameters.iter_mut().zip(readings) {
+            *parameter = u64::from(*reading);
         }
     }
 
-    fn watch(&mut self, k: usize) {
-        let mut rule = self.watches[k % 16];
-        let value = self.parameters[(rule.watches % 64) as usize];
-        let past = if rule.upward {
-            rule.limit <= value
-        } else {
-            value <= rule.limit
-        };
-        rule.count = if past { rule.count.wrapping_add(1) } else { 0 };
-        self.watches[k % 16] = rule;
-        if rule.needs > 0 && rule.needs == rule.count {
-            self.act(rule);
+    // Each rule after what those before it did.
+    fn watch(&mut self) {
+        let mut watches = self.watches;
+        for watch in &mut watches {
+            watch.see(self.parameters[(watch.watches % 64) as usize]);
+            if watch.acts() {
+                self.act(watch);
+            }
         }
+        self.watches = watches;
     }
 
-    fn act(&mut self, rule: Watch) {
-        if rule.safes {
+    fn act(&mut self, watch: &Watch) {
+        if watch.safes {
             self.safe_mode = true;
         } else {
-            self.put(rule.place, rule.number);
+            self.put(watch.place, watch.number);
         }
     }
 
@@ -117,13 +165,9 @@ impl Story {
 
     // Each activity in its order is done, missed or kept.
     fn release(&mut self) {
-        let activities = self.activities;
-        let waiting = self.waiting;
-        self.forget();
-        for k in 0..32 {
-            if k < waiting {
-                self.consider(activities[k]);
-            }
+        let activities = mem::replace(&mut self.activities, [None; 32]);
+        for activity in activities.iter().flatten() {
+            self.consider(*activity);
         }
     }
 
@@ -137,14 +181,17 @@ impl Story {
         }
     }
 
+    // Behind those that wait, where there is room.
     fn keep(&mut self, activity: Waiting) {
-        self.activities[self.waiting % 32] = activity;
-        self.waiting = self.waiting.wrapping_add(1);
+        let waiting = self.waiting();
+        if let Some(room) = self.activities.get_mut(waiting) {
+            *room = Some(activity);
+        }
     }
 
-    fn forget(&mut self) {
-        self.activities = [NOTHING; 32];
-        self.waiting = 0;
+    /// How many activities wait.
+    pub fn waiting(&self) -> usize {
+        self.activities.iter().flatten().count()
     }
 
     fn hear(&mut self, frame: &[u64; 12]) {
@@ -156,17 +203,15 @@ impl Story {
         }
     }
 
-    // Does what a frame commands, or says that it cannot be done.
+    // Does what a frame commands, or says that it cannot be done. A kind is the number that the description gives it:
+    // a frame may have any.
     fn obeys(&mut self, frame: &[u64; 12]) -> bool {
-        match frame[1] {
-            0 => self.puts(frame[2], frame[3]),
-            1 => self.schedules(Waiting {
-                release: frame[2],
-                place: frame[3],
-                number: frame[4],
-            }),
+        let [_, kind, a, b, c, d, e, f, g, h, _, _] = *frame;
+        match kind {
+            0 => self.puts(a, b),
+            1 => self.schedules(Waiting::from([a, b, c])),
             2 => {
-                self.forget();
+                self.activities = [None; 32];
                 true
             }
             3 => {
@@ -177,7 +222,7 @@ impl Story {
                 self.safe_mode = false;
                 true
             }
-            5 => self.sets(frame[2], watch_in(frame)),
+            5 => self.sets(a, Watch::from([b, c, d, e, f, g, h])),
             _ => false,
         }
     }
@@ -191,65 +236,49 @@ impl Story {
     }
 
     fn schedules(&mut self, activity: Waiting) -> bool {
-        let can = is_free(activity.place) && activity.release > self.time && self.waiting < 32;
+        let can = is_free(activity.place) && activity.release > self.time && self.waiting() < 32;
         if can {
             self.keep(activity);
         }
         can
     }
 
-    fn sets(&mut self, index: u64, rule: Watch) -> bool {
-        let can = index < 16 && rule.watches < 64 && (rule.safes || is_free(rule.place));
+    fn sets(&mut self, index: u64, watch: Watch) -> bool {
+        let can = index < 16 && watch.watches < 64 && (watch.safes || is_free(watch.place));
         if can {
-            self.watches[(index % 16) as usize] = rule;
+            self.watches[index as usize] = watch;
         }
         can
     }
 
     /// The satellite that words without a fault say.
     pub fn of(words: &[u64; 294]) -> Story {
+        let [time, expected, safe_mode, rejected, missed, ..] = *words;
         let mut story = Story::at_launch();
-        story.time = words[0];
-        story.expected = words[1];
-        story.safe_mode = words[2] == 1;
-        story.rejected = words[3];
-        story.missed = words[4];
-        story.read_parameters(words);
+        story.time = time;
+        story.expected = expected;
+        story.safe_mode = safe_mode == 1;
+        story.rejected = rejected;
+        story.missed = missed;
+        story.parameters.copy_from_slice(&words[5..69]);
         story.read_activities(words);
         story.read_watches(words);
         story
     }
 
-    fn read_parameters(&mut self, words: &[u64; 294]) {
-        for i in 0..64 {
-            self.parameters[i] = words[5 + i];
-        }
-    }
-
     fn read_activities(&mut self, words: &[u64; 294]) {
-        let waiting = words[69];
-        for k in 0..32 {
-            if (k as u64) < waiting {
-                self.keep(Waiting {
-                    release: words[70 + 3 * k],
-                    place: words[71 + 3 * k],
-                    number: words[72 + 3 * k],
-                });
-            }
+        let (activities, _) = words[70..166].as_chunks();
+        for activity in activities.iter().take(words[69] as usize) {
+            self.keep(Waiting::from(*activity));
         }
     }
 
     fn read_watches(&mut self, words: &[u64; 294]) {
-        for k in 0..16 {
-            self.watches[k] = Watch {
-                watches: words[166 + 7 * k],
-                limit: words[167 + 7 * k],
-                upward: words[168 + 7 * k] == 1,
-                needs: words[169 + 7 * k],
-                safes: words[170 + 7 * k] == 1,
-                place: words[171 + 7 * k],
-                number: words[172 + 7 * k],
-                count: words[278 + k],
+        let (rules, _) = words[166..278].as_chunks();
+        for (watch, (rule, count)) in self.watches.iter_mut().zip(rules.iter().zip(&words[278..])) {
+            *watch = Watch {
+                count: *count,
+                ..Watch::from(*rule)
             };
         }
     }
@@ -262,7 +291,7 @@ impl Story {
             u64::from(self.safe_mode),
             self.rejected,
             self.missed,
-            self.waiting as u64,
+            self.waiting() as u64,
             self.parameters[0],
             self.parameters[1],
         ]
@@ -276,68 +305,57 @@ impl Story {
         words[2] = u64::from(self.safe_mode);
         words[3] = self.rejected;
         words[4] = self.missed;
-        words[69] = self.waiting as u64;
-        self.write_parameters(&mut words);
+        words[5..69].copy_from_slice(&self.parameters);
+        words[69] = self.waiting() as u64;
         self.write_activities(&mut words);
         self.write_watches(&mut words);
+        self.write_counts(&mut words);
         words
     }
 
-    fn write_parameters(&self, words: &mut [u64; 294]) {
-        for i in 0..64 {
-            words[5 + i] = self.parameters[i];
-        }
-    }
-
     fn write_activities(&self, words: &mut [u64; 294]) {
-        for k in 0..32 {
-            let activity = self.activities[k];
-            words[70 + 3 * k] = activity.release;
-            words[71 + 3 * k] = activity.place;
-            words[72 + 3 * k] = activity.number;
+        let (places, _) = words[70..166].as_chunks_mut();
+        for (place, activity) in places.iter_mut().zip(self.activities.iter().flatten()) {
+            *place = (*activity).into();
         }
     }
 
     fn write_watches(&self, words: &mut [u64; 294]) {
-        for k in 0..16 {
-            let rule = self.watches[k];
-            words[166 + 7 * k] = rule.watches;
-            words[167 + 7 * k] = rule.limit;
-            words[168 + 7 * k] = u64::from(rule.upward);
-            words[169 + 7 * k] = rule.needs;
-            words[170 + 7 * k] = u64::from(rule.safes);
-            words[171 + 7 * k] = rule.place;
-            words[172 + 7 * k] = rule.number;
-            words[278 + k] = rule.count;
+        let (places, _) = words[166..278].as_chunks_mut();
+        for (place, watch) in places.iter_mut().zip(&self.watches) {
+            *place = (*watch).into();
+        }
+    }
+
+    fn write_counts(&self, words: &mut [u64; 294]) {
+        for (place, watch) in words[278..].iter_mut().zip(&self.watches) {
+            *place = watch.count;
         }
     }
 }
 
 /// The lowest word that no lawful flight leaves.
 pub fn fault(words: &[u64; 294]) -> Option<usize> {
-    for k in 0..294 {
-        if words[k] > LARGEST || is_misplaced(words, k) {
-            return Some(k);
-        }
-    }
-    None
+    words
+        .iter()
+        .enumerate()
+        .position(|(k, word)| *word > LARGEST || is_misplaced(words, k))
 }
 
 fn is_misplaced(words: &[u64; 294], k: usize) -> bool {
-    if k == 69 {
-        words[69] > 32
-    } else if k >= 70 && k < 166 {
-        is_wrong_activity(words, k - 70)
-    } else if k >= 166 && k < 278 {
-        is_wrong_watch(words, k - 166)
-    } else {
-        false
+    match k {
+        69 => words[69] > 32,
+        70..=165 => is_wrong_activity(words, k - 70),
+        166..=277 => is_wrong_watch(words, k - 166),
+        _ => false,
     }
 }
 
 // Whether word k of the activities waits for a time that has been, or for a place that cannot be put.
-fn is_wrong_activity(words: &[u64; 294], k: usize) -> bool {
-    let word = words[70 + k % 96];
+fn is_wrong_activity(words: &[u64; 294], k: usize) -> bool
+    requires { k < 96 }
+{
+    let word = words[70 + k];
     let waits = ((k / 3) as u64) < words[69];
     match k % 3 {
         0 => waits && word <= words[0],
@@ -347,26 +365,14 @@ fn is_wrong_activity(words: &[u64; 294], k: usize) -> bool {
 }
 
 // Whether word k of the rules watches no parameter, or is the place of a rule that would put where it cannot.
-fn is_wrong_watch(words: &[u64; 294], k: usize) -> bool {
-    let k = k % 112;
+fn is_wrong_watch(words: &[u64; 294], k: usize) -> bool
+    requires { k < 112 }
+{
     let word = words[166 + k];
     match k % 7 {
         0 => word >= 64,
         5 => words[166 + k - 2] > 0 && words[166 + k - 1] != 1 && !is_free(word),
         _ => false,
-    }
-}
-
-fn watch_in(frame: &[u64; 12]) -> Watch {
-    Watch {
-        watches: frame[3],
-        limit: frame[4],
-        upward: frame[5] == 1,
-        needs: frame[6],
-        safes: frame[7] == 1,
-        place: frame[8],
-        number: frame[9],
-        count: 0,
     }
 }
 
@@ -376,20 +382,16 @@ fn is_free(place: u64) -> bool {
 }
 
 fn is_whole(frame: &[u64; 12]) -> bool {
-    for number in frame {
-        if *number >= 0x1_0000_0000 {
-            return false;
-        }
-    }
-    frame[11] == check_of(frame)
+    frame.iter().all(|number| *number < 0x1_0000_0000) && frame[11] == check_of(frame)
 }
 
 /// The check over the first eleven numbers of a frame.
 pub fn check_of(frame: &[u64; 12]) -> u64 {
-    let mut sum = 0u64;
-    for i in 0..11 {
-        let weight = i as u64 + 1;
-        sum = sum.wrapping_add(weight.wrapping_mul(frame[i]));
-    }
+    let sum = frame[..11]
+        .iter()
+        .zip(1..)
+        .fold(0u64, |sum, (number, weight)| {
+            sum.wrapping_add(number.wrapping_mul(weight))
+        });
     sum % 65521
 }

@@ -1,13 +1,19 @@
 //! A satellite in flight beside its story.
 use crate::story::{Story, fault};
-use onboard::{Done, Refusal, launch, tick};
-use std::fmt;
+use onboard::{Refusal, launch, tick};
+use std::{array, fmt};
 
 /// How many words memory keeps, each three times.
 pub const WORDS: usize = 294;
 
 // A report that nobody wrote yet.
 const UNTOUCHED: [u64; 8] = [9; 8];
+
+/// Flights beside their story. What it displays is how often what happened.
+pub trait Trial: fmt::Display + Drop {
+    /// Flies them all, or until flight and story part.
+    fn run(&mut self) -> Result<(), Difference>;
+}
 
 /// What a tick is given.
 #[derive(Clone, Copy)]
@@ -16,54 +22,55 @@ pub struct Inputs {
     pub frame: Option<[u64; 12]>,
 }
 
+/// A place where a row of numbers is not the story's.
+#[derive(Clone, Copy, Drop)]
+pub struct Parting {
+    place: usize,
+    flight: u64,
+    story: u64,
+}
+
+impl fmt::Display for Parting {
+    fn fmt<W: fmt::Write>(&self, f: &mut fmt::Formatter<W>) -> fmt::Result {
+        let Parting { flight, story, .. } = self;
+        write!(f, "{flight}, not {story}")
+    }
+}
+
 /// Where flight and story part.
 #[derive(Clone, Copy, Drop)]
 pub enum Difference {
     Launch,
-    Refused {
-        number: u64,
-        place: u64,
-    },
-    NotRefused {
-        number: u64,
-        place: u64,
-    },
-    Report {
-        place: usize,
-        story: u64,
-        flight: u64,
-    },
-    Memory {
-        place: usize,
-        story: u64,
-        flight: u64,
-    },
-    Changed {
-        place: usize,
-    },
+    Refused(Refusal),
+    NotRefused(Refusal),
+    Report(Parting),
+    Memory(Parting),
+    /// What was lent has changed, though the call was refused.
+    Changed(Parting),
+}
+
+/// It should not have been refused.
+impl From<Refusal> for Difference {
+    fn from(refusal: Refusal) -> Difference {
+        Difference::Refused(refusal)
+    }
 }
 
 impl fmt::Display for Difference {
     fn fmt<W: fmt::Write>(&self, f: &mut fmt::Formatter<W>) -> fmt::Result {
         match *self {
             Difference::Launch => write!(f, "it was not launched"),
-            Difference::Refused { number, place } => {
-                write!(f, "it was refused, {number} {place}")
+            Difference::Refused(refusal) => write!(f, "it was refused, {refusal}"),
+            Difference::NotRefused(refusal) => write!(f, "it was not refused, {refusal}"),
+            Difference::Report(parting) => {
+                let place = parting.place;
+                write!(f, "number {place} of the report is {parting}")
             }
-            Difference::NotRefused { number, place } => {
-                write!(f, "it was not refused, {number} {place}")
+            Difference::Memory(parting) => {
+                let place = parting.place;
+                write!(f, "number {place} of memory is {parting}")
             }
-            Difference::Report {
-                place,
-                story,
-                flight,
-            } => { write!(f, "number {place} of the report is {flight}, not {story}") }
-            Difference::Memory {
-                place,
-                story,
-                flight,
-            } => { write!(f, "number {place} of memory is {flight}, not {story}") }
-            Difference::Changed { place } => {
+            Difference::Changed(Parting { place, .. }) => {
                 write!(f, "number {place} of what was lent has changed")
             }
         }
@@ -72,19 +79,27 @@ impl fmt::Display for Difference {
 
 #[derive(Clone, Copy)]
 pub struct Flight {
-    pub memory: [u64; 882],
+    memory: [u64; 882],
     pub story: Story,
 }
 
 impl Flight {
     pub fn launched() -> Result<Flight, Difference> {
         let mut memory = [7; 882];
-        if launch(&mut memory).is_err() {
-            return Err(Difference::Launch);
-        }
+        launch(&mut memory).map_err(|_| Difference::Launch)?;
         let story = Story::at_launch();
         same_memory(&memory, &story.words())?;
         Ok(Flight { memory, story })
+    }
+
+    /// All of memory.
+    pub fn memory(&self) -> &[u64; 882] {
+        &self.memory
+    }
+
+    /// A word, as its first copy has it.
+    pub fn word(&self, word: usize) -> u64 {
+        self.memory[word % WORDS]
     }
 
     /// Copy `copy` of a word becomes another number.
@@ -92,18 +107,20 @@ impl Flight {
         self.memory[copy % 3 * WORDS + word % WORDS] = number;
     }
 
+    /// All copies of a word become another number.
+    pub fn overwrite(&mut self, word: usize, number: u64) {
+        for copy in 0..3 {
+            self.hit(copy, word, number);
+        }
+    }
+
     /// A tick of the satellite and of the story, which then agree in the report and in all of memory.
     pub fn tick(&mut self, inputs: &Inputs) -> Result<(), Difference> {
         let mut report = [0; 8];
-        let done = call(&mut self.memory, inputs, &mut report);
-        self.story.tick(&inputs.readings, &inputs.frame);
-        match done {
-            Done::Ticked => {
-                same_report(&report, &self.story.report())?;
-                same_memory(&self.memory, &self.story.words())
-            }
-            Done::Refused(refusal) => Err(refused(refusal)),
-        }
+        call(&mut self.memory, inputs, &mut report)?;
+        self.story.tick(&inputs.readings, inputs.frame.as_ref());
+        same(&report, &self.story.report()).map_err(Difference::Report)?;
+        same_memory(&self.memory, &self.story.words())
     }
 }
 
@@ -111,104 +128,76 @@ impl Flight {
 /// else it goes on from what the copies of each word vote. Whether it was refused.
 pub fn tick_anywhere(memory: &[u64; 882], inputs: &Inputs) -> Result<bool, Difference> {
     let words = voted(memory);
+    let Some(word) = fault(&words) else {
+        let mut flight = Flight {
+            memory: *memory,
+            story: Story::of(&words),
+        };
+        flight.tick(inputs)?;
+        return Ok(false);
+    };
     let mut after = *memory;
     let mut report = UNTOUCHED;
     let done = call(&mut after, inputs, &mut report);
-    match (done, fault(&words)) {
-        (Done::Refused(refusal), Some(word)) => {
-            same_refusal(refusal, 2, word as u64)?;
-            same_numbers(&after, memory)?;
-            same_numbers(&report, &UNTOUCHED)?;
-            Ok(true)
-        }
-        (Done::Ticked, None) => {
-            let mut flight = Flight {
-                memory: *memory,
-                story: Story::of(&words),
-            };
-            flight.tick(inputs)?;
-            Ok(false)
-        }
-        (Done::Refused(refusal), None) => Err(refused(refusal)),
-        (Done::Ticked, Some(word)) => Err(Difference::NotRefused {
-            number: 2,
-            place: word as u64,
-        }),
-    }
+    refused_for(done, Refusal::Unfit { word })?;
+    unchanged(&after, memory)?;
+    unchanged(&report, &UNTOUCHED)?;
+    Ok(true)
 }
 
 // Of each word what two of its copies say, or the first.
 fn voted(memory: &[u64; 882]) -> [u64; 294] {
-    let mut words = [0; 294];
-    for k in 0..WORDS {
-        let first = memory[k];
-        let second = memory[WORDS + k];
-        let third = memory[2 * WORDS + k];
-        words[k] = if second == third { second } else { first };
-    }
-    words
+    array::from_fn(|k| {
+        let [first, second, third] = [memory[k], memory[WORDS + k], memory[2 * WORDS + k]];
+        if second == third { second } else { first }
+    })
 }
 
 /// Calls the on-board program.
-pub fn call(memory: &mut [u64; 882], inputs: &Inputs, report: &mut [u64; 8]) -> Done {
-    match &inputs.frame {
-        Some(frame) => tick(memory, &inputs.readings, frame, report),
-        None => tick(memory, &inputs.readings, &[], report),
-    }
+pub fn call(
+    memory: &mut [u64; 882],
+    inputs: &Inputs,
+    report: &mut [u64; 8],
+) -> Result<(), Refusal> {
+    let frame: &[u64] = match &inputs.frame {
+        Some(frame) => frame,
+        None => &[],
+    };
+    tick(memory, &inputs.readings, frame, report)
 }
 
-/// It should not have been refused.
-pub fn refused(refusal: Refusal) -> Difference {
-    Difference::Refused {
-        number: refusal.number(),
-        place: refusal.place(),
-    }
-}
-
-pub fn same_refusal(refusal: Refusal, number: u64, place: u64) -> Result<(), Difference> {
-    if refusal.number() == number && refusal.place() == place {
-        Ok(())
-    } else {
-        Err(refused(refusal))
+/// A call was refused, and for this.
+pub fn refused_for(done: Result<(), Refusal>, wanted: Refusal) -> Result<(), Difference> {
+    match done {
+        Err(refusal) if refusal == wanted => Ok(()),
+        Err(refusal) => Err(Difference::Refused(refusal)),
+        Ok(()) => Err(Difference::NotRefused(wanted)),
     }
 }
 
 /// Nothing of what was lent has changed.
-pub fn same_numbers(after: &[u64], before: &[u64]) -> Result<(), Difference> {
-    if after.len() != before.len() {
-        return Err(Difference::Changed { place: 0 });
-    }
-    for place in 0..after.len() {
-        if after[place] != before[place] {
-            return Err(Difference::Changed { place });
-        }
-    }
-    Ok(())
+pub fn unchanged<const N: usize>(after: &[u64; N], before: &[u64; N]) -> Result<(), Difference> {
+    same(after, before).map_err(Difference::Changed)
 }
 
 // All three copies of every word are what the story has.
 fn same_memory(memory: &[u64; 882], words: &[u64; 294]) -> Result<(), Difference> {
-    for place in 0..882 {
-        let story = words[place % WORDS];
-        let flight = memory[place];
-        if flight != story {
-            return Err(Difference::Memory {
-                place,
-                story,
-                flight,
-            });
-        }
+    let mut story = [0; 882];
+    let (copies, _) = story.as_chunks_mut();
+    for copy in copies {
+        *copy = *words;
     }
-    Ok(())
+    same(memory, &story).map_err(Difference::Memory)
 }
 
-fn same_report(report: &[u64; 8], story: &[u64; 8]) -> Result<(), Difference> {
-    for place in 0..8 {
-        if report[place] != story[place] {
-            return Err(Difference::Report {
+// Each number is the story's, or the first one that is not.
+fn same<const N: usize>(flight: &[u64; N], story: &[u64; N]) -> Result<(), Parting> {
+    for (place, (flight, story)) in flight.iter().zip(story).enumerate() {
+        if flight != story {
+            return Err(Parting {
                 place,
-                story: story[place],
-                flight: report[place],
+                flight: *flight,
+                story: *story,
             });
         }
     }

@@ -222,6 +222,17 @@ mod tests {
     }
 
     #[test]
+    fn numbers_and_places_of_refusals(rt: HostRuntime) {
+        let places = [Lent::Memory, Lent::Readings, Lent::Frame, Lent::Report].map(
+            |lent| Refusal::Length(lent).place(),
+        );
+        assert_eq!(rt; places, [0, 1, 2, 3]);
+        assert_eq!(rt; Refusal::Length(Lent::Frame).number(), 1);
+        assert_eq!(rt; Refusal::Unfit { word: 70 }.number(), 2);
+        assert_eq!(rt; Refusal::Unfit { word: 70 }.place(), 70);
+    }
+
+    #[test]
     fn refusals_change_nothing(rt: HostRuntime) {
         let craft = Craft::launched()
             .up(0, Command::Wake)

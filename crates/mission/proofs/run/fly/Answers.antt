@@ -4,7 +4,7 @@ use Rattle.std.proofs.lemmas.Slice.{pushed}
 use Rattle.satellite.specs.Fit.{most}
 use Rattle.text.specs.declared.event.Event.{Event}
 use Rattle.mission.specs.declared.aloft.Output.{Output}
-use Rattle.mission.specs.Steps.{Ran, launched}
+use Rattle.mission.specs.Steps.{Ran, and_then, launched}
 use Rattle.mission.proofs.Flying.{run_more, outputs_more, outputs_same, run_right}
 use Rattle.mission.proofs.run.fly.Goals as goal
 use Rattle.mission.proofs.run.fly.Goals.{in-Some+in_ok-push, in_default}
@@ -16,12 +16,14 @@ loop-event-init c =
 
 pub loop-event-preserved : goal.loop-event-preserved
 loop-event-preserved c =
+    let os = vec_items c.loop-event.outputs in
+    let ps = vec_items c.match-step.outputs in
+    let given : reverse ps ≡ and_then c.step.result (reverse os) =
     elim c.match-step.branch [
-      | in-Some+in_ok-push w ↦ run_more c.args.events.now c.loop-event.event-index _ c.loop-event.aloft _ _ (vec_items c.loop-event.outputs) (vec_items c.match-step.outputs) c.loop-event-test.true c.loop-event.invariant c.step.ensures
-          (outputs_more _ w.in-Some.output _ _ w.in-Some.is (ap vec_items w.outputs-is ∙ pushed (w.in-Some.output ∷ []) refl w.in_ok-push.was w.push.ensures.items))
-      | in_default w ↦ run_more c.args.events.now c.loop-event.event-index _ c.loop-event.aloft _ _ (vec_items c.loop-event.outputs) (vec_items c.match-step.outputs) c.loop-event-test.true c.loop-event.invariant c.step.ensures
-          (outputs_same _ _ _ w.in_default.is (ap vec_items w.outputs-is))
-    ]
+      | in-Some+in_ok-push w ↦ outputs_more _ w.in-Some.output os ps w.in-Some.is (ap vec_items w.outputs-is ∙ pushed (w.in-Some.output ∷ []) refl w.in_ok-push.was w.push.ensures.items)
+      | in_default w ↦ outputs_same _ os ps w.in_default.is (ap vec_items w.outputs-is)
+    ] in
+    run_more _ _ _ _ _ _ os ps c.loop-event-test.true c.loop-event.invariant c.step.ensures given
 
 pub returns : goal.returns
 returns c =
