@@ -99,6 +99,7 @@ fn check(frame: &[u64; 12]) -> u64
     sum % MODULUS
 }
 
+// A frame says the kind by a number: here and in `unchecked` stands which.
 fn command_in(frame: &[u64; 12]) -> Command
     ensures { result ≡ command_of frame.now }
 {

@@ -30,6 +30,7 @@ pub enum Refusal {
     Unfit { word: usize },
 }
 
+// The numbers by which boards, texts and people know a refusal.
 impl Refusal {
     pub fn number(self) -> u64
         ensures { result ≡ refusal_number self }

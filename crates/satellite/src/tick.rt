@@ -66,6 +66,7 @@ impl Satellite {
         ensures { model result ≡ watched 16 (model self) }
     {
         let mut satellite = self;
+        // By place, since the satellite is handed round: each rule sees what the ones before it did.
         for k in 0..COUNT {
             let rule = satellite.rules.watches[k].rule;
             let count = satellite.look(k);
