@@ -55,9 +55,6 @@ fit_of ws f =
     let h = heads_fit ws s in
     record { time = h.0; expected = h.1; rejected = h.2; missed = h.3; placed = placed_fit ws s; rules = record { each = λ k l. rules_fit ws k s l; counts = λ k l. counts_fit ws k s l } }
 
-pub few_of : (ws : List ℕ) → Faultless ws → get_or ws 69 0 ≤ 32
-few_of ws f = (sane_of ws f).few
-
 thrice_length : (ws : List ℕ) → length (thrice ws) ≡ 3 * length ws
 thrice_length ws = grind (arith, length-append)
 
