@@ -1,13 +1,13 @@
 -- A call that does what the entry says goes on with the flight.
-use Rattle.std.proofs.Common.{◌≡◌, ℕ, ◌+◌, ◌*◌, ◌<◌, ◌≤◌, true, ◌||◌, eqb, leb, ◌⊎◌, List, [], ◌∷◌, ◌++◌, map, length, get_or, drop, Some, None, Ok, Err, Option, Result, sym, refl, ap, ◌∙◌, subst, ⊎_elim, arith, length-append, Fits, w16}
-use Rattle.std.proofs.lemmas.Bool.{eq-eqb, leb-true, and_parts, or_left, or_right, true≢false, cond-true}
+use Rattle.std.proofs.Common.{◌≡◌, ℕ, ◌+◌, ◌*◌, ◌<◌, ◌≤◌, ◌⊎◌, List, [], ◌∷◌, map, length, get_or, drop, Some, None, Ok, Err, Option, Result, sym, refl, ap, ◌∙◌, subst, arith, length-append, Fits, w16}
+use Rattle.std.proofs.lemmas.Bool.Decides.{nat_tests}
+use Rattle.std.proofs.lemmas.Bool.{true≢false}
 use Rattle.std.specs.List.{range_with_len}
 use Rattle.std.proofs.lemmas.List.FromFn.{length-map-range_with_len, get_or-map-range_with_len}
 use Rattle.std.proofs.lemmas.List.{get_or-take, get_or-drop}
 use Rattle.schedule.specs.declared.activity.Activity.{Activity}
 use Rattle.schedule.specs.Waiting.{no_activity, Placed}
 use Rattle.rules.specs.Watching.{off}
-use Rattle.parameters.specs.Places.{may_put}
 use Rattle.memory.specs.Threefold.{voted_words, thrice}
 use Rattle.satellite.specs.State.{State, rule, count, at_launch}
 use Rattle.satellite.specs.Story.{Inputs, ticked}
@@ -21,7 +21,6 @@ use Rattle.flight.specs.Machine.{launched}
 use Rattle.flight.specs.Flight.{after, Flew}
 use Rattle.flight.proofs.Flying.{flies_right, carries_on}
 use Rattle.flight.proofs.Fitting.{never_refused}
-use Rattle.onboard.specs.declared.Lent.TheVariants.{Memory, Readings, Frame, Report}
 use Rattle.onboard.specs.declared.Lent.{Lent}
 use Rattle.onboard.specs.declared.Refusal.{Refusal}
 use Rattle.onboard.specs.declared.Refusal.TheVariants.{Length, Unfit}
@@ -29,13 +28,7 @@ use Rattle.onboard.specs.Entry.{wrong_length, refused_for, tick_of, Says, GoesOn
 
 -- memory without fault says a state that can tick
 rule_fit : (ws : List ℕ) (k : ℕ) → Sane ws → k < 16 → RuleFit (rule_at ws k)
-rule_fit ws k s l = record {
-  watches = s.watches k l;
-  puts = λ n e. ⊎_elim {C = get_or ws (171 + 7 * k) 0 < 64} (λ z. absurd (omega arith)) (⊎_elim {C = get_or ws (171 + 7 * k) 0 < 64} (λ t. absurd (true≢false (sym t ∙ e))) (λ p. below (get_or ws (171 + 7 * k) 0) p)) (s.puts k l);
-}
-  where
-    below : (a : ℕ) → may_put a ≡ true → a < 64
-    below a e = let p = leb-true a 63 (and_parts (leb 16 a) (leb a 63) e).1 in omega arith
+rule_fit ws k s l = record { watches = s.watches k l; puts = λ n e. grind (arith, nat_tests, s.puts k l) }
 
 rules_fit : (ws : List ℕ) (k : ℕ) → Sane ws → k < 16 → RuleFit (rule (state_of ws) k)
 unfolding state_of rules_in
@@ -50,7 +43,7 @@ unfolding state_of schedule_in
 placed_fit ws s k l =
     let n : length (map (activity_at ws) (range_with_len 0 (get_or ws 69 0))) ≡ get_or ws 69 0 = length-map-range_with_len (activity_at ws) 0 (get_or ws 69 0) in
     let e : get_or (map (activity_at ws) (range_with_len 0 (get_or ws 69 0))) k no_activity ≡ activity_at ws k = get_or-map-range_with_len (activity_at ws) 0 (get_or ws 69 0) k k no_activity (omega arith) (omega arith) in
-    subst (λ (a : Activity). a.place < 64) (sym e) (let p = leb-true (get_or ws (71 + 3 * k) 0) 63 (and_parts (leb 16 (get_or ws (71 + 3 * k) 0)) (leb (get_or ws (71 + 3 * k) 0) 63) (s.placed k (omega arith))).1 in omega arith)
+    subst (λ (a : Activity). a.place < 64) (sym e) (grind (arith, nat_tests, s.placed k (omega arith)))
 
 heads_fit : (ws : List ℕ) → Sane ws → ((state_of ws).time ≤ most) × ((state_of ws).expected ≤ most) × ((state_of ws).rejected ≤ most) × ((state_of ws).missed ≤ most)
 unfolding state_of
@@ -63,7 +56,7 @@ fit_of ws f =
     record { time = h.0; expected = h.1; rejected = h.2; missed = h.3; placed = placed_fit ws s; rules = record { each = λ k l. rules_fit ws k s l; counts = λ k l. counts_fit ws k s l } }
 
 thrice_length : (ws : List ℕ) → length (thrice ws) ≡ 3 * length ws
-thrice_length ws = omega (arith, length-append ws (ws ++ ws), length-append ws ws)
+thrice_length ws = grind (arith, length-append)
 
 flown_length : (is : List Inputs) (kept : List ℕ) → Flew is kept → length kept ≡ 3 * word_count
 flown_length is kept flown =
@@ -71,17 +64,14 @@ flown_length is kept flown =
     ap length h.1 ∙ thrice_length (words_of (after is)) ∙ ap (λ n. 3 * n) h.0
 
 right_lengths : (m r f t : ℕ) → m ≡ 3 * word_count → r ≡ 16 → (f ≡ 0) ⊎ (f ≡ 12) → t ≡ 8 → wrong_length m r f t ≡ None
-right_lengths m r f t em er ef et =
-    let a : (eqb f 0 || eqb f 12) ≡ true = ⊎_elim (λ (e : f ≡ 0). or_left (eqb f 0) (eqb f 12) (eq-eqb f 0 e)) (λ (e : f ≡ 12). or_right (eqb f 0) (eqb f 12) (eq-eqb f 12 e)) ef in
-    cond-true (eqb m (3 * word_count)) _ (Some Memory) (eq-eqb m (3 * word_count) em)
-    ∙ cond-true (eqb r 16) _ (Some Readings) (eq-eqb r 16 er) ∙ cond-true (eqb f 0 || eqb f 12) _ (Some Frame) a ∙ cond-true (eqb t 8) None (Some Report) (eq-eqb t 8 et)
+right_lengths m r f t em er ef et = grind (arith, nat_tests)
 
 -- a length that is refused is the first that is wrong, and nothing has changed
 pub length_says : (m r f t : List ℕ) (e : Refusal) → Err e ≡ refused_for (wrong_length (length m) (length r) (length f) (length t)) → Says (Err e) m r f t m t
 length_says m r f t e h = at_once (wrong_length (length m) (length r) (length f) (length t)) refl h
   where
     at_once : (w : Option Lent) → wrong_length (length m) (length r) (length f) (length t) ≡ w → Err e ≡ refused_for w → Says (Err e) m r f t m t
-    at_once None n x = let z : ◌≡◌ {A = ℕ} 0 1 = cc in absurd (omega arith)
+    at_once None n x = cc
     at_once (Some lent) n x = let z : e ≡ Length lent = cc in subst (λ (y : Refusal). Says (Err y) m r f t m t) (sym z) (n, refl, refl)
 
 goes_on : (d : Result (Unit {0}) Refusal) (m r f t m₁ t₁ : List ℕ) → ((k : ℕ) → get_or r k 0 ≤ 65535) → Says d m r f t m₁ t₁ → GoesOn d m r f t m₁ t₁
@@ -95,8 +85,7 @@ goes_on (Ok u) m r f t m₁ t₁ small says is kept flown upset short lr lf lt =
     )
 goes_on (Err (Length lent)) m r f t m₁ t₁ small says is kept flown upset short lr lf lt =
     let none : wrong_length (length m) (length r) (length f) (length t) ≡ None = right_lengths (length m) (length r) (length f) (length t) (upset.long ∙ flown_length is kept flown) lr lf lt in
-    let some = says.0 in
-    let z : ◌≡◌ {A = ℕ} 0 1 = cc in absurd (omega arith)
+    let some = says.0 in cc
 goes_on (Err (Unfit word)) m r f t m₁ t₁ small says is kept flown upset short lr lf lt =
     absurd (true≢false (sym says.1.1 ∙ never_refused is kept m flown upset short word says.1.0))
 

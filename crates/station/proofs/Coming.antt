@@ -27,7 +27,7 @@ named_heard cs i is s e =
     ap decoded (sym g) ∙ round_trip t ok)
     (λ (l : ltb n (length cs) ≡ false).
     let f : ◌≡◌ {A = Option (List ℕ)} None (Some i.frame) = sym (cond-false (ltb n (length cs)) (encoding t) None l) ∙ e in
-    let z : ◌≡◌ {A = ℕ} 0 1 = cc in absurd (omega arith))
+    cc)
     (cases_Bool (ltb n (length cs)))
 
 pub comes_through : ComesThrough
