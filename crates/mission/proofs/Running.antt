@@ -8,10 +8,10 @@ use Rattle.text.specs.declared.event.Event.{Event}
 use Rattle.text.specs.declared.fault.Fault.{Fault}
 use Rattle.text.specs.declared.fault.Fault.TheVariants as fault
 use Rattle.text.specs.declared.statement.Statements.{Statements}
-use Rattle.text.specs.Lines.{rest, reads_next}
+use Rattle.text.specs.Lines.{reads_next}
 use Rattle.text.specs.Text.{flights, Told, Failed}
 use Rattle.text.proofs.Once.{event_readable, told_once, told_faultless}
-use Rattle.text.proofs.Telling.{Until, fails, silent, said, last}
+use Rattle.text.proofs.Telling.{Until, fails, silent, said}
 use Rattle.text.proofs.Writing.{put_more, put_is}
 use Rattle.mission.specs.declared.aloft.Aloft.{Aloft}
 use Rattle.mission.specs.declared.aloft.Output.{Output}
@@ -80,9 +80,6 @@ module _ {W : Type 0} (took : W → List ℕ → W → Type 0) where
           (subst (λ (os : List Output). Ran (e ∷ reverse u.events) b os) (sym (some_and_then u.outputs o)) (stepped e (reverse u.events) aloft b o (reverse u.outputs) u.ran m));
       written = λ q. let x = u.written q in put_is took f _ _ h (told_some u.outputs o) (put_more took f (told u.outputs) g (line_told o) h x (p x.plain));
     }
-
-  pub ended : (text : List ℕ) (s : Statements Event) (aloft : Aloft) (f g : Formatter W) → Underway text s aloft f g → rest s ≡ [] → IsPlainFormatter f → Flown took text f g
-  ended text s aloft f g u e p = record { events = u.events; says = last flights u.sofar e; outputs = u.outputs; aloft = aloft; ran = u.ran; written = u.written p }
 
   -- where the hits are tolerated, what was written is the story
   pub storied : (text : List ℕ) (f g : Formatter W) → Flown took text f g → Storied took text f g

@@ -4,6 +4,5 @@ pub mod Reading
 pub mod Lawfulness
 pub mod Undoing
 pub mod Writing
-pub mod Bounds
 pub mod Back
 pub mod Once

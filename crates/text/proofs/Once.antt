@@ -3,6 +3,7 @@ use Rattle.std.proofs.Common.{◌≡◌, ℕ, zero, suc, ◌+◌, ◌^◌, ◌<�
 use Rattle.std.specs.List.{AllByRecursion as All}
 use Rattle.std.proofs.lemmas.List.{take_at, take-map}
 use Rattle.std.proofs.lemmas.Bool.{and_parts, and_from, ltb-true}
+use Rattle.rules.specs.Numbers.{bit}
 use Rattle.frame.specs.declared.Command.{Command}
 use Rattle.text.specs.declared.words.Word.{Word}
 use Rattle.text.specs.declared.words.Word.TheVariants.{Number}
@@ -11,7 +12,7 @@ use Rattle.text.specs.declared.fault.Fault.{Fault}
 use Rattle.text.specs.declared.fault.Fault.TheVariants.{Unreadable, Memory}
 use Rattle.text.specs.Law.{command_bounded, bounded, all_below, all_said, kept_words}
 use Rattle.text.specs.Render.{rendered, Only}
-use Rattle.text.specs.Table.{mark, command_words, event_words}
+use Rattle.text.specs.Table.{command_words, event_words}
 use Rattle.text.specs.Text.{spoken, Says, Language, Readable, flights, orders, Tells, Fails}
 use Rattle.text.specs.Words.{Writable, lines}
 use Rattle.text.proofs.Back.{says_back}
@@ -44,7 +45,7 @@ all_writable n m (x ∷ xs) l = let t = and_parts (ltb x n) (all_below n xs) l i
 carried : (xs : List ℕ) → all_below 4294967296 xs ≡ true → All Writable (map Number xs)
 carried xs l = all_writable 4294967296 (omega arith) xs l
 
-mark_small : (b : Bool) → mark b < 2 ^ 64
+mark_small : (b : Bool) → bit b < 2 ^ 64
 mark_small true = omega arith
 mark_small false = omega arith
 

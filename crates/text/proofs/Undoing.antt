@@ -2,11 +2,12 @@
 use Rattle.std.proofs.Common.{◌≡◌, ℕ, Bool, true, false, eqb, List, [], ◌∷◌, map, get_or, drop, Some, None, Option, MatchOption, sym, refl, ap, ◌∙◌, subst, arith}
 use Rattle.std.specs.Bool.{then_some}
 use Rattle.std.proofs.lemmas.Bool.{false≢true}
+use Rattle.rules.specs.Numbers.{bit}
 use Rattle.frame.specs.declared.Command.{Command}
 use Rattle.text.specs.declared.words.Word.{Word}
 use Rattle.text.specs.declared.words.Word.TheVariants.{Number, Read, Up, Frame, Hit, Tick, Put, Later, Forget, Sleep, Wake, Rule, Other}
 use Rattle.text.specs.declared.event.Event.{Event}
-use Rattle.text.specs.Table.{mark, command_words, event_words, amount, Found, Finds}
+use Rattle.text.specs.Table.{command_words, event_words, amount, Found, Finds}
 
 or_zero : Option ℕ → ℕ
 or_zero None = 0
@@ -36,7 +37,7 @@ command_named Other ws = Command.Unknown (nth ws 1)
 pub command_back : List Word → Command
 command_back ws = command_named (get_or ws 0 Other) ws
 
-mark_back : (b : Bool) → eqb (mark b) 1 ≡ b
+mark_back : (b : Bool) → eqb (bit b) 1 ≡ b
 mark_back true = refl
 mark_back false = refl
 

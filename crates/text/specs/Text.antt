@@ -1,6 +1,6 @@
 -- What a text says: the events in their order, or the first line at fault and what it should have been.
 use Rattle.std.specs.Prelude.{◌≡◌, ℕ, ◌+◌, ◌<◌, Bool, true, false, List, [], ◌∷◌, map, length, take, Some, None, Option, Ok, Err, Result, ◌≢◌, slice_index_or}
-use Rattle.std.specs.List.{AllByRecursion as All}
+use Rattle.std.specs.List.{AllByRecursion}
 use Rattle.frame.specs.declared.Command.{Command}
 use Rattle.text.specs.declared.words.Word.{Word}
 use Rattle.text.specs.declared.words.Word.TheVariants.{Number, Read, Up, Frame, Hit, Tick, Put, Later, Forget, Sleep, Wake, Rule, Other}
@@ -80,7 +80,7 @@ pub record Readable {E : Type 0} (l : Language E) : Type 0 where
   pub back : List Word → E
   pub undo : (e : E) → back (l.words e) ≡ e
   pub some : (e : E) → l.words e ≡ [] → ⊥
-  pub writable : (heard : Bool) (e : E) → l.may heard e ≡ true → All Writable (l.words e)
+  pub writable : (heard : Bool) (e : E) → l.may heard e ≡ true → AllByRecursion Writable (l.words e)
 
 module _ {E : Type 0} (l : Language E) where
   -- nothing that may be said now has these words, and this is what they should have been

@@ -1,6 +1,5 @@
 //! The events of a flight, and the words that say them.
-ghost use Rattle.std.specs.Prelude.{◌≡◌, Bool, ◌≢◌, MatchOption};
-ghost use Rattle.text.specs.Table.{mark, Numbers, RuleNumbers, Commands, Events};
+ghost use Rattle.text.specs.Table.{Numbers, RuleNumbers, Commands, Events};
 
 use crate::words::Word;
 use frame::Command;
@@ -73,37 +72,21 @@ pub fn command_of(words: &[Word]) -> Option<Command>
         [Word::Forget] => Some(Command::Forget),
         [Word::Sleep] => Some(Command::Sleep),
         [Word::Wake] => Some(Command::Wake),
-        [Word::Rule, ref rest @ ..] => rule_of(rest),
+        [Word::Rule, Word::Number(index), ref rest @ ..] => {
+            let rule = rule_of(rest)?;
+            Some(Command::SetRule { index, rule })
+        }
         _ => None,
     }
 }
 
-// The rule that eight numbers say, of which the fourth and the sixth are marks.
-fn rule_of(words: &[Word]) -> Option<Command>
+// The rule that seven numbers say, if it says the same: its marks are 1 or 0.
+fn rule_of(words: &[Word]) -> Option<Rule>
     ensures { RuleNumbers words.now result }
 {
-    let [index, watches, limit, upward, needs, safes, place, number] = numbers::<8>(words)?;
-    let rule = Rule {
-        watches,
-        limit,
-        upward: mark_of(upward)?,
-        needs,
-        safes: mark_of(safes)?,
-        place,
-        number,
-    };
-    Some(Command::SetRule { index, rule })
-}
-
-// A mark is said as 1 or 0.
-fn mark_of(n: u64) -> Option<bool>
-    ensures { MatchOption result ((b : Bool) → n ≢ mark b) (λ b. n ≡ mark b) }
-{
-    match n {
-        0 => Some(false),
-        1 => Some(true),
-        _ => None,
-    }
+    let numbers = numbers::<7>(words)?;
+    let rule = Rule::from(numbers);
+    (<[u64; 7]>::from(rule) == numbers).then_some(rule)
 }
 
 /// So many numbers, and nothing else.

@@ -11,7 +11,6 @@ ghost use Rattle.text.specs.Render.{listed, rendered, Only};
 use crate::event::Event;
 use crate::statement::Statement;
 use frame::Command;
-use rules::Rule;
 use schedule::Activity;
 use std::alloc::{AllocError, Global};
 use std::fmt;
@@ -92,29 +91,13 @@ impl fmt::Display for Order {
             Command::Sleep => write!(f, "sleep"),
             Command::Wake => write!(f, "wake"),
             Command::SetRule { index, rule } => {
-                let numbers = rule_numbers(index, rule);
-                write!(f, "rule")?;
+                let numbers = <[u64; 7]>::from(rule);
+                write!(f, "rule {index}")?;
                 list(&numbers, f)
             }
             Command::Unknown { kind } => write!(f, "? {kind}"),
         }
     }
-}
-
-// The eight numbers of a rule, its marks as 1 or 0.
-fn rule_numbers(index: u64, rule: Rule) -> [u64; 8]
-    ensures { map Number result ≡ drop 1 (command_words (Command.SetRule index rule)) }
-{
-    [
-        index,
-        rule.watches,
-        rule.limit,
-        u64::from(rule.upward),
-        rule.needs,
-        u64::from(rule.safes),
-        rule.place,
-        rule.number,
-    ]
 }
 
 /// Writes each number after a space.
