@@ -92,6 +92,7 @@ fn heard_on<S: Statement>(heard: bool, read: Result<Option<S>, Unread>) -> bool
 }
 
 /// What a text says, in order; or its first line at fault, counted from 0, and what was expected there.
+/// `Readable` is asked here and is no law of `Statement`: a law is proved in specs/, where no tactic may stand.
 pub fn parse_all<S: Statement>(heap: Global, text: &[u8]) -> Result<Vec<S>, Fault>
     requires { Readable S.language }
     ensures { MatchResult result (λ v. Tells S.language text.now v.items) (λ f. Fails S.language text.now f) }
