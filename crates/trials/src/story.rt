@@ -163,18 +163,28 @@ impl Story {
         self.parameters[(place % 64) as usize] = number;
     }
 
-    // Each activity in its order is done, missed or kept.
+    // Each activity that is due is done or missed, in their order; the others move up.
     fn release(&mut self) {
+        let time = self.time;
         let activities = mem::replace(&mut self.activities, [None; 32]);
-        for activity in activities.iter().flatten() {
-            self.consider(*activity);
+        let later = activities
+            .iter()
+            .flatten()
+            .filter(|activity| activity.release != time);
+        for (room, activity) in self.activities.iter_mut().zip(later) {
+            *room = Some(*activity);
+        }
+        let due = activities
+            .iter()
+            .flatten()
+            .filter(|activity| activity.release == time);
+        for activity in due {
+            self.comes_due(*activity);
         }
     }
 
-    fn consider(&mut self, activity: Waiting) {
-        if activity.release != self.time {
-            self.keep(activity);
-        } else if self.safe_mode {
+    fn comes_due(&mut self, activity: Waiting) {
+        if self.safe_mode {
             self.missed = self.missed.wrapping_add(1);
         } else {
             self.put(activity.place, activity.number);
