@@ -57,4 +57,4 @@ decoded_small f t e =
     cond_both (is_whole f) (Some (record { number = get_or f 0 0; command = command_of f })) None (λ o. o ≡ Some t → SmallCommand t.command)
     (λ w d. let p : record { number = get_or f 0 0; command = command_of f } ≡ t = cc in
     subst (λ (u : Telecommand). SmallCommand u.command) p (command_small f (and_parts (all_small f) (eqb (get_or f 11 0) (check_of f)) (and_parts (eqb (length f) 12) (all_small f && eqb (get_or f 11 0) (check_of f)) w).1).0))
-    (λ w d. let z : ◌≡◌ {A = ℕ} 0 1 = cc in absurd (omega arith)) e
+    (λ w d. cc) e

@@ -1,5 +1,6 @@
 -- What is encoded decodes to the same telecommand.
 use Rattle.std.proofs.Common.{◌≡◌, ℕ, ◌≤◌, Bool, true, false, eqb, leb, List, get_or, set, Some, None, sym, refl, ap, ◌∙◌, mod-lt, arith}
+use Rattle.std.proofs.lemmas.Bool.Decides.{nat_tests}
 use Rattle.std.proofs.lemmas.Bool.{eq-eqb, ne_eqb, le-leb, leb-true, and_parts, and_from, cond-true, cond-false}
 use Rattle.frame.specs.declared.Command.{Command}
 use Rattle.frame.specs.declared.Command.TheVariants.{Put, Later, Forget, Sleep, Wake, SetRule, Unknown}
@@ -31,10 +32,7 @@ bit_back false = refl
 
 -- from 6 on a kind is none
 pub no_kind : (f : List ℕ) → 6 ≤ get_or f 1 0 → Unknown (get_or f 1 0) ≡ command_of f
-no_kind f l =
-    let k : ℕ = get_or f 1 0 in
-    sym (cond-false (eqb k 0) _ _ (ne_eqb k 0 (λ e. omega arith)) ∙ cond-false (eqb k 1) _ _ (ne_eqb k 1 (λ e. omega arith)) ∙ cond-false (eqb k 2) _ _ (ne_eqb k 2 (λ e. omega arith))
-    ∙ cond-false (eqb k 3) _ _ (ne_eqb k 3 (λ e. omega arith)) ∙ cond-false (eqb k 4) _ _ (ne_eqb k 4 (λ e. omega arith)) ∙ cond-false (eqb k 5) _ _ (ne_eqb k 5 (λ e. omega arith)))
+no_kind f l = grind (arith, nat_tests)
 
 -- the command is read back, if its kind is its own
 command_back : (n : ℕ) (c : Command) (v : ℕ) → is_kind c ≡ true → command_of (set (carried n c) 11 v) ≡ c

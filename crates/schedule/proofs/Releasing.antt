@@ -104,19 +104,19 @@ moved time safe before seen seen' still still' missed missed' values values' a b
 
 -- what a fate tells of the activity
 waits_only : (b s : Bool) → Waits ≡ cond b (cond s Missed Done) Waits → b ≡ false
-waits_only true true e = let z : ◌≡◌ {A = ℕ} 0 1 = cc in absurd (omega arith)
-waits_only true false e = let z : ◌≡◌ {A = ℕ} 0 1 = cc in absurd (omega arith)
+waits_only true true e = cc
+waits_only true false e = cc
 waits_only false s e = refl
 
 missed_only : (b s : Bool) → Missed ≡ cond b (cond s Missed Done) Waits → (b ≡ true) × (s ≡ true)
 missed_only true true e = (refl, refl)
-missed_only true false e = let z : ◌≡◌ {A = ℕ} 0 1 = cc in absurd (omega arith)
-missed_only false s e = let z : ◌≡◌ {A = ℕ} 0 1 = cc in absurd (omega arith)
+missed_only true false e = cc
+missed_only false s e = cc
 
 done_only : (b s : Bool) → Done ≡ cond b (cond s Missed Done) Waits → (b ≡ true) × (s ≡ false)
-done_only true true e = let z : ◌≡◌ {A = ℕ} 0 1 = cc in absurd (omega arith)
+done_only true true e = cc
 done_only true false e = (refl, refl)
-done_only false s e = let z : ◌≡◌ {A = ℕ} 0 1 = cc in absurd (omega arith)
+done_only false s e = cc
 
 pub fate_waits : (a : Activity) (t : ℕ) (s : Bool) → Waits ≡ fate_of a t s → a.release ≡ t → ⊥
 fate_waits a t s e = eqb-false a.release t (waits_only (eqb a.release t) s e)
