@@ -42,7 +42,8 @@ pub struct Telecommand {
     pub command: Command,
 }
 
-/// The command that a whole frame carries; nothing where the frame is not whole.
+/// The command that a whole frame carries; nothing where the frame is not whole. An `Option` and no `TryFrom`, here
+/// and in `encode`: of what is not whole there is nothing more to say.
 pub fn decode(frame: &[u64]) -> Option<Telecommand>
     ensures { result ≡ decoded frame.now }
 {

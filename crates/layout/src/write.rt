@@ -35,8 +35,8 @@ pub fn words(satellite: Satellite) -> [u64; 294]
 }
 
 // The loops that lay count places, since these say where a thing is written. To make arrays of the numbers of all
-// activities and all rules first, and to lay those, takes twice as long; the two loops differ in the size of an array,
-// over which no bound `Fn` is proved, and in what they read.
+// activities and all rules first, and to lay those, makes a tick take two thirds longer; and one loop for both would
+// take what numbers a thing has as an `Fn` over a const parameter, of which nothing is proved.
 fn lay_activities(words: &mut [u64; 294], waiting: &[Activity])
     requires { length waiting.now ≤ 32 }
     ensures { words.new ≡ take 70 words.old ++ (flat_map activity_words waiting.now ++ drop (70 + 3 * length waiting.now) words.old) }
