@@ -163,23 +163,25 @@ impl Story {
         self.parameters[(place % 64) as usize] = number;
     }
 
-    // Each activity that is due is done or missed, in their order; the others move up.
+    // Each activity that is due is done or missed, in their order; the others wait on.
     fn release(&mut self) {
-        let time = self.time;
         let activities = mem::replace(&mut self.activities, [None; 32]);
+        self.wait_on(&activities);
+        for activity in activities.iter().flatten() {
+            if activity.release == self.time {
+                self.comes_due(*activity);
+            }
+        }
+    }
+
+    fn wait_on(&mut self, activities: &[Option<Waiting>; 32]) {
+        let time = self.time;
         let later = activities
             .iter()
             .flatten()
             .filter(|activity| activity.release != time);
         for (room, activity) in self.activities.iter_mut().zip(later) {
             *room = Some(*activity);
-        }
-        let due = activities
-            .iter()
-            .flatten()
-            .filter(|activity| activity.release == time);
-        for activity in due {
-            self.comes_due(*activity);
         }
     }
 
