@@ -42,9 +42,6 @@ release_fit i s b w e d f =
       subst (λ n. n ≤ most) (sym (ap (λ (u : State). u.missed) (k ∙ ap (λ (v : State). with_safe_mode (watched 16 b).safe_mode (with_parameters (watched 16 b).parameters (with_counts (watched 16 b).counts v))) e))) f.missed,
     )
 
-pub watch_fit : (i : Inputs) (s b : State) → b ≡ begun i.readings s → Fit s → RulesFit b
-watch_fit i s b e f = subst RulesFit (sym e) (record { each = f.rules.each; counts = f.rules.counts })
-
 pub obey_fit : (i : Inputs) (s b w u : State) → b ≡ begun i.readings s → w ≡ watched 16 b → u ≡ released w → Fit s → (u.expected ≤ most) × (u.rejected ≤ most)
 obey_fit i s b w u e d g f =
     let k : w ≡ with_safe_mode (watched 16 b).safe_mode (with_parameters (watched 16 b).parameters (with_counts (watched 16 b).counts b)) = d ∙ watched_kept 16 b in

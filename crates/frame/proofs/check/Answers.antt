@@ -1,4 +1,4 @@
-use Rattle.std.proofs.Common.{◌≡◌, get_or, ◌∙◌, arith}
+use Rattle.std.proofs.Common.{◌≡◌, get_or, arith}
 use Rattle.frame.specs.Frame.{weighed}
 use Rattle.frame.proofs.Smallness.{each_small}
 use Rattle.frame.proofs.Weights.{weighed_none, weighed_more, product, check_is}

@@ -1,6 +1,5 @@
-use Rattle.std.proofs.Common.{ℕ, get_or, set, ap, ◌∙◌, arith}
+use Rattle.std.proofs.Common.{◌∙◌, arith}
 use Rattle.std.proofs.lemmas.List.FromFn.{fill_by_all}
-use Rattle.std.proofs.lemmas.List.Edits.{fill_by_more}
 use Rattle.memory.specs.Threefold.{voted, voted_words}
 use Rattle.memory.proofs.Copies.read.Goals as goal
 
