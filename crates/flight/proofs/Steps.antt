@@ -7,7 +7,7 @@ use Rattle.schedule.specs.Waiting.{due, still_waiting, put_all}
 use Rattle.rules.specs.Watching.{acts}
 use Rattle.frame.specs.declared.Telecommand.{Telecommand}
 use Rattle.satellite.specs.State.{State, with_time, with_safe_mode, with_parameters, with_counts, parameter, rule}
-use Rattle.satellite.specs.Story.{Inputs, begun, looked, counted, acted, watched_one, watched, released, can, done, rejecting, expecting_next, obeyed, received, heeded, at_release, at_reception, ticked}
+use Rattle.satellite.specs.Story.{Inputs, begun, looked, counted, acted, watched_one, watched, can, done, rejecting, expecting_next, obeyed, received, heeded, at_release, at_reception, ticked}
 use Rattle.satellite.proofs.Watching.{watched_kept}
 use Rattle.flight.specs.Flight.{Lawful}
 use Rattle.flight.specs.Effects.{TickKeeps}

@@ -6,7 +6,7 @@ use Rattle.schedule.specs.Waiting.{due, put_all, NoneDue, Placed}
 use Rattle.frame.specs.declared.Telecommand.{Telecommand}
 use Rattle.frame.specs.Frame.{decoded}
 use Rattle.satellite.specs.State.{State, with_safe_mode, with_missed, with_parameters, with_schedule, with_counts}
-use Rattle.satellite.specs.Fit.{Fit, RulesFit, most}
+use Rattle.satellite.specs.Fit.{Fit, most}
 use Rattle.satellite.proofs.Watching.{watched_kept}
 use Rattle.satellite.specs.Story.{Inputs, begun, watched, released, heeded, at_release, at_reception, ticked}
 

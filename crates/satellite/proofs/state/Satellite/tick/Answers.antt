@@ -1,7 +1,7 @@
 use Rattle.std.proofs.Common.{◌≡◌, Some, None, sym, ap, ◌∙◌}
 use Rattle.satellite.specs.Story.{Inputs, released}
 use Rattle.satellite.specs.Model.{model}
-use Rattle.satellite.proofs.Ticking.{receiving, heeding, released_none, unheeded, watch_fit, release_fit, obey_fit}
+use Rattle.satellite.proofs.Ticking.{receiving, heeding, released_none, unheeded, release_fit, obey_fit}
 use Rattle.satellite.proofs.state.Satellite.tick.Goals as goal
 use Rattle.satellite.proofs.state.Satellite.tick.Goals.{Joined-is_due, then-is_due, else-is_due}
 
