@@ -80,10 +80,6 @@ after_about i is k f =
     (λ t h. obeyed_cases t r (About k r)
     (λ n _. done_about r t.command k (λ x d. f x (h ∙ (λ j. Some (record { number = (n ∙ e) j; command = d j }))))) (λ _ _. (refl, refl)) (λ _. (refl, refl)))
 
-early_lawful : (late early : List Inputs) → AllLawful machine (late ++ early) → AllLawful machine early
-early_lawful [] early l = l
-early_lawful (i ∷ late) early (more j js x l) = early_lawful late early l
-
 rule_stays : (k : ℕ) (r : Rule) (late early : List Inputs) → rule (after early) k ≡ r → Unset k late early → rule (after (late ++ early)) k ≡ r
 rule_stays k r [] early e n = e
 rule_stays k r (i ∷ late) early e n =

@@ -73,10 +73,6 @@ pub release_is : (i : Inputs) (s : State) → at_release i s ≡ watched 16 (beg
 unfolding at_release
 release_is i s = refl
 
-pub reception_is : (i : Inputs) (s : State) → at_reception i s ≡ released (at_release i s)
-unfolding at_reception
-reception_is i s = refl
-
 pub release_kept : (i : Inputs) (s : State)
     → at_release i s ≡ with_safe_mode (at_release i s).safe_mode (with_parameters (at_release i s).parameters (with_counts (at_release i s).counts (with_time (suc s.time) s)))
 unfolding at_release
@@ -129,12 +125,3 @@ tick_keeps i s =
       rules = r.rules j;
       counts = u.counts;
     }
-
-pub release_time : (i : Inputs) (s : State) → (at_release i s).time ≡ suc s.time
-release_time i s = ap (λ (u : State). u.time) (release_kept i s)
-
-pub release_schedule : (i : Inputs) (s : State) → (at_release i s).schedule ≡ s.schedule
-release_schedule i s = ap (λ (u : State). u.schedule) (release_kept i s)
-
-pub release_rules : (i : Inputs) (s : State) → (at_release i s).rules ≡ s.rules
-release_rules i s = ap (λ (u : State). u.rules) (release_kept i s)

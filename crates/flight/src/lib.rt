@@ -9,204 +9,146 @@ ghost use Rattle.flight.specs.Scheduling.{PartsInTick, NeverLate, KeptTillDue, P
 ghost use Rattle.flight.specs.Protecting.{PastRight, CountsRight, InstrumentsRight, BeginsAnew, ActsJustThen, SafeByRules, RulesPut, ElseUntouched};
 
 /// Whatever the readings, the frames and the upsets, what memory holds is the story's.
-pub fn flies_right() -> u8
+pub fn flies_right()
     ensures { FliesRight }
-{
-    0
-}
+{}
 
 /// What a flight of fewer than 2^62 ticks leaves is not refused.
-pub fn never_refused() -> u8
+pub fn never_refused()
     ensures { NeverRefused }
-{
-    0
-}
+{}
 
 /// One more tick from whatever the memory became goes on with the flight.
-pub fn carries_on() -> u8
+pub fn carries_on()
     ensures { CarriesOn }
-{
-    0
-}
+{}
 
 /// Each command is obeyed once, in order, none left out.
-pub fn each_once() -> u8
+pub fn each_once()
     ensures { EachOnce }
-{
-    0
-}
+{}
 
 /// A command that has the expected number comes through.
-pub fn comes_through() -> u8
+pub fn comes_through()
     ensures { ComesThrough }
-{
-    0
-}
+{}
 
 /// Safe mode is had in the tick in which it is commanded.
-pub fn safe_at_once() -> u8
+pub fn safe_at_once()
     ensures { SafeAtOnce }
-{
-    0
-}
+{}
 
 /// Each command has its effect, and only that.
-pub fn commands_act() -> u8
+pub fn commands_act()
     ensures { CommandsAct }
-{
-    0
-}
+{}
 
 /// What is not its turn changes nothing; what cannot be done changes two counters.
-pub fn else_ignored() -> u8
+pub fn else_ignored()
     ensures { ElseIgnored }
-{
-    0
-}
+{}
 
 /// What a tick leaves as it was, whatever comes up.
-pub fn tick_keeps() -> u8
+pub fn tick_keeps()
     ensures { TickKeeps }
-{
-    0
-}
+{}
 
 /// The first sixteen parameters are what was read.
-pub fn reads_right() -> u8
+pub fn reads_right()
     ensures { ReadsRight }
-{
-    0
-}
+{}
 
 /// Never more than 32 activities, and always 64 parameters and 16 rules.
-pub fn keeps_sizes() -> u8
+pub fn keeps_sizes()
     ensures { KeepsSizes }
-{
-    0
-}
+{}
 
 /// Time is the number of ticks.
-pub fn time_right() -> u8
+pub fn time_right()
     ensures { TimeRight }
-{
-    0
-}
+{}
 
 /// Rejected counts the commands whose turn came and that could not be done.
-pub fn rejected_right() -> u8
+pub fn rejected_right()
     ensures { RejectedRight }
-{
-    0
-}
+{}
 
 /// The state at launch, in words.
-pub fn launches_right() -> u8
+pub fn launches_right()
     ensures { LaunchesRight }
-{
-    0
-}
+{}
 
 /// In each tick the due activities are gone, the others wait on in their order.
-pub fn parts_in_tick() -> u8
+pub fn parts_in_tick()
     ensures { PartsInTick }
-{
-    0
-}
+{}
 
 /// No activity is kept past its time.
-pub fn never_late() -> u8
+pub fn never_late()
     ensures { NeverLate }
-{
-    0
-}
+{}
 
 /// What waits on is touched by no command but forget, and later adds one behind.
-pub fn kept_till_due() -> u8
+pub fn kept_till_due()
     ensures { KeptTillDue }
-{
-    0
-}
+{}
 
 /// The last due activity for a place has put its number, outside safe mode.
-pub fn put_when_due() -> u8
+pub fn put_when_due()
     ensures { PutWhenDue }
-{
-    0
-}
+{}
 
 /// A place for which no activity is due keeps what it held.
-pub fn else_kept() -> u8
+pub fn else_kept()
     ensures { ElseKept }
-{
-    0
-}
+{}
 
 /// In safe mode each due activity is counted as missed and changes no parameter.
-pub fn missed_in_safe_mode() -> u8
+pub fn missed_in_safe_mode()
     ensures { MissedInSafeMode }
-{
-    0
-}
+{}
 
 /// Missed counts what it should over the whole flight.
-pub fn missed_right() -> u8
+pub fn missed_right()
     ensures { MissedRight }
-{
-    0
-}
+{}
 
 /// Past its limit, in words, at the limit and one off it.
-pub fn past_right() -> u8
+pub fn past_right()
     ensures { PastRight }
-{
-    0
-}
+{}
 
 /// The count of a rule: for how many of the latest ticks what it saw was past.
-pub fn counts_right() -> u8
+pub fn counts_right()
     ensures { CountsRight }
-{
-    0
-}
+{}
 
 /// The same of an instrument, by what was read.
-pub fn instruments_right() -> u8
+pub fn instruments_right()
     ensures { InstrumentsRight }
-{
-    0
-}
+{}
 
 /// A rule that is set begins from 0.
-pub fn begins_anew() -> u8
+pub fn begins_anew()
     ensures { BeginsAnew }
-{
-    0
-}
+{}
 
 /// A rule acts just when its count becomes what it needs, else only its count changes.
-pub fn acts_just_then() -> u8
+pub fn acts_just_then()
     ensures { ActsJustThen }
-{
-    0
-}
+{}
 
 /// Safe mode by a rule is had in that very tick, before the activities.
-pub fn safe_by_rules() -> u8
+pub fn safe_by_rules()
     ensures { SafeByRules }
-{
-    0
-}
+{}
 
 /// The last rule that acts for a place has put its number.
-pub fn rules_put() -> u8
+pub fn rules_put()
     ensures { RulesPut }
-{
-    0
-}
+{}
 
 /// Nothing else changes a parameter.
-pub fn else_untouched() -> u8
+pub fn else_untouched()
     ensures { ElseUntouched }
-{
-    0
-}
+{}

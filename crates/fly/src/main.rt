@@ -6,24 +6,14 @@ use anyhow::anyhow;
 use mission::{Failure, fly_lines};
 use std::fmt::Formatter;
 use std::io::{BufWriter, Read, Stdout, Write};
-use std::str::from_utf8;
-use std::{env, fmt, fs};
-use text::{Fault, line_at};
+use std::{env, fmt};
+use text::{Fault, Misread, read_file};
 
 fn main(rt: HostRuntime) -> anyhow::Result<()> {
-    let mut words = env::args(&rt)?;
-    let _ = words.next();
-    match words.next() {
+    match env::args(&rt)?.nth(1) {
         None => fly_text(&rt, &standard_input(&rt)?),
         Some(word) if word.as_str() == "--help" => help(&rt),
-        Some(path) => match fs::read(&rt, path.as_str()) {
-            Ok(text) => fly_text(&rt, &text),
-            Err(error) => {
-                let path = path.as_str();
-                eprintln!(rt; "fly: {path}: {error}")?;
-                Err(error.into())
-            }
-        },
+        Some(path) => fly_text(&rt, &read_file(&rt, "fly", path.as_str())?),
     }
 }
 
@@ -51,10 +41,7 @@ struct Console(BufWriter<Stdout>);
 
 impl fmt::Write for Console {
     fn write_str(&mut self, s: &str) -> fmt::Result {
-        match self.0.write_all(s.as_bytes()) {
-            Ok(()) => Ok(()),
-            Err(_) => Err(fmt::Error),
-        }
+        self.0.write_all(s.as_bytes()).map_err(|_| fmt::Error)
     }
 }
 
@@ -69,16 +56,18 @@ fn fly_text(rt: &HostRuntime, text: &[u8]) -> anyhow::Result<()> {
                 Err(_) => unwritten(rt),
             }
         }
-        Err(Failure::Unread(Fault::Unreadable { line, expected })) => {
-            eprintln!(rt; "refused 3 {line}")?;
-            let found = from_utf8(line_at(text, line)).unwrap_or("what is no text");
-            let line = line.saturating_add(1);
-            eprintln!(rt; "fly: line {line}: expected {expected}; found {found}")?;
-            Err(anyhow!("the text cannot be read"))
-        }
-        Err(Failure::Unread(Fault::Memory)) => {
-            eprintln!(rt; "fly: no memory left")?;
-            Err(anyhow!("no memory left"))
+        Err(Failure::Unread(fault)) => {
+            let misread = Misread {
+                program: "fly",
+                of: "",
+                text,
+                fault,
+            };
+            eprintln!(rt; "{misread}")?;
+            match fault {
+                Fault::Unreadable { .. } => Err(anyhow!("the text cannot be read")),
+                Fault::Memory => Err(anyhow!("no memory left")),
+            }
         }
         Err(Failure::Unwritten) => unwritten(rt),
     }

@@ -1,5 +1,6 @@
 -- Telecommand frames: when twelve numbers are a whole frame, which command a frame carries, and the frame of a command.
 use Rattle.std.specs.Prelude.{ℕ, zero, suc, ◌+◌, ◌*◌, ◌%◌, Bool, true, cond, ◌&&◌, List, [], ◌∷◌, length, Some, None, Option, ◌==◌, nat_le, slice_index, slice_set}
+use Rattle.std.specs.List.{list_all}
 use Rattle.rules.specs.declared.rule.Rule.{Rule}
 use Rattle.frame.specs.declared.Command.{Command}
 use Rattle.frame.specs.declared.Command.TheVariants.{Put, Later, Forget, Sleep, Wake, SetRule, Unknown}
@@ -7,8 +8,7 @@ use Rattle.frame.specs.declared.Telecommand.{Telecommand}
 
 -- every number is below 2^32
 abbrev pub all_small : List ℕ → Bool
-all_small [] = true
-all_small (x ∷ xs) = nat_le x 4294967295 && all_small xs
+all_small xs = list_all (λ x. nat_le x 4294967295) xs
 
 -- the first n numbers, each times one more than its place, added
 unfoldable pub weighed : ℕ → List ℕ → ℕ

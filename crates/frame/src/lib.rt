@@ -2,7 +2,7 @@
 
 #![tactic(auto)]
 
-ghost use Rattle.std.specs.Prelude.{◌≡◌, ◌%◌, true, length, Some, nat_le};
+ghost use Rattle.std.specs.Prelude.{◌≡◌, true, false, Some, MatchOption};
 ghost use Rattle.frame.specs.Frame.{all_small, check_of, is_whole, command_of, rule_of, decoded, body, encodable, encoded, encoding, is_kind};
 
 use rules::Rule;
@@ -46,9 +46,7 @@ pub struct Telecommand {
 pub fn decode(frame: &[u64]) -> Option<Telecommand>
     ensures { result ≡ decoded frame.now }
 {
-    if !whole(frame) {
-        return None;
-    }
+    let frame = whole(frame)?;
     Some(Telecommand {
         number: frame[0],
         command: command_in(frame),
@@ -69,52 +67,40 @@ pub fn encode(telecommand: Telecommand) -> Option<[u64; 12]>
     Some(frame)
 }
 
-// Whether a frame has twelve numbers that are small enough, the last of them the check.
-fn whole(frame: &[u64]) -> bool
-    ensures { result ≡ is_whole frame.now }
+// The numbers of a frame that is whole: twelve, small enough, the last of them the check.
+fn whole(frame: &[u64]) -> Option<&[u64; 12]>
+    ensures { MatchOption result (is_whole frame.now ≡ false) (λ twelve. (twelve.now ≡ frame.now) × (is_whole frame.now ≡ true)) }
 {
-    frame.len() == LENGTH && small(frame) && frame[11] == check(frame)
+    let twelve = <&[u64; LENGTH]>::try_from(frame).ok()?;
+    if small(twelve) && twelve[11] == check(twelve) {
+        Some(twelve)
+    } else {
+        None
+    }
 }
 
-fn small(numbers: &[u64]) -> bool
+// Whether a frame can carry these numbers.
+fn small(numbers: &[u64; 12]) -> bool
     ensures { result ≡ all_small numbers.now }
 {
-    for x in numbers {
-        if !carried(*x) {
-            return false;
-        }
-    }
-    true
-}
-
-// Whether a frame can carry this number.
-fn carried(x: u64) -> bool
-    ensures { result ≡ nat_le x 4294967295 }
-{
-    x <= LARGEST
+    numbers.iter().all(|x| *x <= LARGEST)
 }
 
 // Each of the first eleven numbers times one more than its place, added, modulo 65,521.
-fn check(frame: &[u64]) -> u64
-    requires twelve { length frame.now ≡ 12 }
-    requires numbers_small { all_small frame.now ≡ true }
+fn check(frame: &[u64; 12]) -> u64
+    requires { all_small frame.now ≡ true }
     ensures { result ≡ check_of frame.now }
 {
     let mut sum = 0;
+    // The place is a factor, so it is counted.
     for i in 0..11 {
         sum += (i as u64 + 1) * frame[i];
     }
-    folded(sum)
-}
-
-fn folded(sum: u64) -> u64
-    ensures { result ≡ sum % 65521 }
-{
     sum % MODULUS
 }
 
-fn command_in(frame: &[u64]) -> Command
-    requires { length frame.now ≡ 12 }
+// A frame says the kind by a number: here and in `unchecked` stands which.
+fn command_in(frame: &[u64; 12]) -> Command
     ensures { result ≡ command_of frame.now }
 {
     match frame[1] {
@@ -123,11 +109,7 @@ fn command_in(frame: &[u64]) -> Command
             number: frame[3],
         },
         1 => Command::Later {
-            activity: Activity {
-                release: frame[2],
-                place: frame[3],
-                number: frame[4],
-            },
+            activity: Activity::from([frame[2], frame[3], frame[4]]),
         },
         2 => Command::Forget,
         3 => Command::Sleep,
@@ -140,20 +122,12 @@ fn command_in(frame: &[u64]) -> Command
     }
 }
 
-// The rule that arguments say; a mark is set by 1 and by nothing else.
-fn rule_in(frame: &[u64]) -> Rule
-    requires { length frame.now ≡ 12 }
+fn rule_in(frame: &[u64; 12]) -> Rule
     ensures { result ≡ rule_of frame.now }
 {
-    Rule {
-        watches: frame[3],
-        limit: frame[4],
-        upward: frame[5] == 1,
-        needs: frame[6],
-        safes: frame[7] == 1,
-        place: frame[8],
-        number: frame[9],
-    }
+    Rule::from([
+        frame[3], frame[4], frame[5], frame[6], frame[7], frame[8], frame[9],
+    ])
 }
 
 // The frame without its check.
@@ -163,37 +137,17 @@ fn unchecked(telecommand: Telecommand) -> [u64; 12]
     let n = telecommand.number;
     match telecommand.command {
         Command::Put { place, number } => [n, 0, place, number, 0, 0, 0, 0, 0, 0, 0, 0],
-        Command::Later { activity } => [
-            n,
-            1,
-            activity.release,
-            activity.place,
-            activity.number,
-            0,
-            0,
-            0,
-            0,
-            0,
-            0,
-            0,
-        ],
+        Command::Later { activity } => {
+            let [release, place, number] = <[u64; 3]>::from(activity);
+            [n, 1, release, place, number, 0, 0, 0, 0, 0, 0, 0]
+        }
         Command::Forget => [n, 2, 0, 0, 0, 0, 0, 0, 0, 0, 0, 0],
         Command::Sleep => [n, 3, 0, 0, 0, 0, 0, 0, 0, 0, 0, 0],
         Command::Wake => [n, 4, 0, 0, 0, 0, 0, 0, 0, 0, 0, 0],
-        Command::SetRule { index, rule } => [
-            n,
-            5,
-            index,
-            rule.watches,
-            rule.limit,
-            u64::from(rule.upward),
-            rule.needs,
-            u64::from(rule.safes),
-            rule.place,
-            rule.number,
-            0,
-            0,
-        ],
+        Command::SetRule { index, rule } => {
+            let [a, b, c, d, e, f, g] = <[u64; 7]>::from(rule);
+            [n, 5, index, a, b, c, d, e, f, g, 0, 0]
+        }
         Command::Unknown { kind } => [n, kind, 0, 0, 0, 0, 0, 0, 0, 0, 0, 0],
     }
 }

@@ -4,28 +4,21 @@
 
 use anyhow::anyhow;
 use station::Station;
-use std::str::from_utf8;
-use std::{env, fs};
+use std::env;
 use telemetry::Report;
-use text::{Event, Fault, line_at, parse_commands, parse_report};
+use text::{Event, Fault, Misread, parse_commands, parse_report, read_file};
 
 fn main(rt: HostRuntime) -> anyhow::Result<()> {
-    let mut words = env::args(&rt)?;
-    let _ = words.next();
-    match words.next() {
+    match env::args(&rt)?.nth(1) {
         None => {
             eprintln!(rt; "ground: name a file of commands; ground --help says more")?;
             Err(anyhow!("no file of commands"))
         }
         Some(word) if word.as_str() == "--help" => help(&rt),
-        Some(path) => match fs::read(&rt, path.as_str()) {
-            Ok(text) => hear_all(&rt, station_of(&rt, &text)?),
-            Err(error) => {
-                let path = path.as_str();
-                eprintln!(rt; "ground: {path}: {error}")?;
-                Err(error.into())
-            }
-        },
+        Some(path) => {
+            let text = read_file(&rt, "ground", path.as_str())?;
+            hear_all(&rt, station_of(&rt, &text)?)
+        }
     }
 }
 
@@ -48,18 +41,18 @@ fn help(rt: &HostRuntime) -> anyhow::Result<()> {
 fn station_of(rt: &HostRuntime, text: &[u8]) -> anyhow::Result<Station> {
     match parse_commands(rt.alloc(), text) {
         Ok(commands) => Ok(Station::new(commands)),
-        Err(Fault::Unreadable { line, expected }) => {
-            eprintln!(rt; "refused 3 {line}")?;
-            let found = from_utf8(line_at(text, line)).unwrap_or("what is no text");
-            let line = line.saturating_add(1);
-            eprintln!(rt;
-                "ground: line {line} of the commands: expected {expected}; found {found}"
-            )?;
-            Err(anyhow!("the commands cannot be read"))
-        }
-        Err(Fault::Memory) => {
-            eprintln!(rt; "ground: no memory left")?;
-            Err(anyhow!("no memory left"))
+        Err(fault) => {
+            let misread = Misread {
+                program: "ground",
+                of: " of the commands",
+                text,
+                fault,
+            };
+            eprintln!(rt; "{misread}")?;
+            match fault {
+                Fault::Unreadable { .. } => Err(anyhow!("the commands cannot be read")),
+                Fault::Memory => Err(anyhow!("no memory left")),
+            }
         }
     }
 }
@@ -78,11 +71,8 @@ fn hear_all(rt: &HostRuntime, mut station: Station) -> anyhow::Result<()> {
 
 // A line that is no report, as one of a refusal, is passed over and said to be so.
 fn hear(rt: &HostRuntime, station: &mut Station, line: &str) -> anyhow::Result<()> {
-    let Some(numbers) = parse_report(rt.alloc(), line.as_bytes())? else {
-        eprintln!(rt; "ground: no report: {line}")?;
-        return Ok(());
-    };
-    let Some(report) = Report::read(&numbers) else {
+    let numbers = parse_report(rt.alloc(), line.as_bytes())?;
+    let Some(report) = numbers.and_then(|numbers| Report::read(&numbers)) else {
         eprintln!(rt; "ground: no report: {line}")?;
         return Ok(());
     };

@@ -1,10 +1,15 @@
 -- Words without fault are those that the map allows.
-use Rattle.std.proofs.Common.{◌≡◌, ℕ, ◌+◌, ◌-◌, ◌*◌, ◌/◌, ◌%◌, ◌<◌, ◌≤◌, Bool, true, false, cond, not, ◌&&◌, eqb, ltb, leb, ◌⊎◌, List, get_or, sym, refl, ◌∙◌, ⊎_elim, arith}
+use Rattle.std.proofs.Common.{◌≡◌, ℕ, ◌+◌, ◌-◌, ◌*◌, ◌/◌, ◌%◌, ◌<◌, ◌≤◌, Bool, true, false, cond, not, ◌&&◌, eqb, ltb, leb, ◌⊎◌, List, [], ◌∷◌, ◌++◌, length, length-append, bit_or, get_or, Some, None, Option, sym, refl, ◌∙◌, subst, ⊎_elim, arith}
+use Rattle.std.specs.Prelude.{MatchOption, MatchBool}
+use lib.Bits.{or_add_and, and_le_l, and_le_r}
+use Rattle.std.specs.List.{range_with_len, AllWithin}
+use Rattle.std.proofs.lemmas.List.{get_or_append_left, get_or_push}
+use Rattle.std.proofs.lemmas.List.FromFn.{length-range_with_len, get_or-range_with_len}
 use Rattle.std.proofs.lemmas.Bool.Decides.{nat_tests}
-use Rattle.std.proofs.lemmas.Bool.{lt-ltb, le-ltb, ltb-false, leb-false, ne_eqb, cases_lt, cases_eq, and_left, and_right}
+use Rattle.std.proofs.lemmas.Bool.{lt-ltb, le-ltb, ltb-false, leb-false, ne_eqb, cases_lt, cases_eq, true≢false, and_left, and_right}
 use Rattle.parameters.specs.Places.{may_put}
 use Rattle.satellite.specs.Fit.{most}
-use Rattle.layout.specs.Fault.{at_fault, Faultless, Sane, FaultsRight}
+use Rattle.layout.specs.Fault.{at_fault, Faultless, Lowest, Sane, FaultsRight}
 
 -- a word at its place in an activity or a rule
 activity_place : (ws : List ℕ) (k i j : ℕ) → j < 3 → k ≡ 70 + 3 * i + j → i < 32
@@ -79,3 +84,22 @@ faultless_of ws f k lt =
 
 pub faults_right : FaultsRight
 faults_right = record { sound = sane_of; complete = faultless_of }
+
+-- the lowest number that is at fault, of those below the last
+pub lowest_of : (ws : List ℕ) (o : Option ℕ) → MatchOption o ((k : ℕ) → 0 ≤ k → k < 294 → at_fault ws k ≡ false) (λ i. (0 ≤ i) × (i < 294) × (at_fault ws i ≡ true) × ((k : ℕ) → 0 ≤ k → k < i → at_fault ws k ≡ false)) → Lowest ws o
+lowest_of ws None h = λ k lt. h k (omega arith) lt
+lowest_of ws (Some i) h = (h.1, h.2, λ k lt. h.3 k (omega arith) lt)
+
+-- what all numbers below n passed holds of each
+pub each_of : (n : ℕ) (P : ℕ → Type 0) (b : Bool) (Q : Type 0) → MatchBool b (AllWithin P (range_with_len 0 n) 0 (length (range_with_len 0 n))) Q → b ≡ true → (i : ℕ) → i < n → P i
+each_of n P true Q h e i lt = subst P (get_or-range_with_len 0 n i 0 lt ∙ omega arith) (h i 0 (omega arith) (let l = length-range_with_len 0 n in omega arith))
+each_of n P false Q h e i lt = absurd (true≢false (sym e))
+
+-- none of the words so far is larger than all of them or-ed together
+abbrev pub Within : List ℕ → ℕ → Type 0
+Within ws all = (k : ℕ) → k < length ws → get_or ws k 0 ≤ all
+
+pub within_more : (ws : List ℕ) (all word : ℕ) → Within ws all → Within (ws ++ (word ∷ [])) (bit_or all word)
+within_more ws all word h k lt =
+    ⊎_elim (λ (l : k < length ws). rw (get_or_append_left ws (word ∷ []) 0 k l) (omega (arith, h k l, or_add_and all word, and_le_r all word)))
+    (λ (l : length ws ≤ k). let e : k ≡ length ws = (let n = length-append ws (word ∷ []) in omega arith) in rw (e, get_or_push ws word 0 (length ws) refl) (omega (arith, or_add_and all word, and_le_l all word))) (cases_lt k (length ws))

@@ -23,6 +23,10 @@ with_noughts front words n m e = e ∙ ap (λ (x : List ℕ). front ++ x) (sym (
 grown : (xs ys : List ℕ) (a b : ℕ) → length xs ≡ a → length ys ≡ b → length (xs ++ ys) ≡ a + b
 grown xs ys a b e d = length-append xs ys ∙ (λ i. e i + d i)
 
+-- a part laid, under another name
+pub laid_as : (from n : ℕ) (now words part other : List ℕ) → part ≡ other → length other ≡ n → now ≡ take from words ++ (part ++ drop (from + length part) words) → now ≡ take from words ++ (other ++ drop (from + n) words)
+laid_as from n now words part other e l is = is ∙ (λ i. take from words ++ (e i ++ drop (from + (ap length e ∙ l) i) words))
+
 pub assembled : (s : State) (w₁ w₂ w₃ w₄ w₅ w₆ : List ℕ) → length s.parameters ≡ 64 → length s.schedule ≤ 32 → length s.rules ≡ 16 → length s.counts ≡ 16
     → w₁ ≡ take 0 (replicate 294 0) ++ (head_words s ++ drop 5 (replicate 294 0))
     → w₂ ≡ take 5 w₁ ++ (s.parameters ++ drop 69 w₁)

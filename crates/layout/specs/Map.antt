@@ -14,6 +14,7 @@ use Rattle.std.specs.Prelude.{◌≡◌, ℕ, ◌+◌, ◌-◌, ◌*◌, ◌≤�
 use Rattle.std.specs.List.{range_with_len, flat_map}
 use Rattle.schedule.specs.declared.activity.Activity.{Activity}
 use Rattle.rules.specs.declared.rule.Rule.{Rule}
+use Rattle.rules.specs.declared.rule.Watch.{Watch}
 use Rattle.satellite.specs.State.{State}
 
 abbrev pub word_count : ℕ
@@ -53,6 +54,10 @@ rule_at ws k = record {
   place = slice_index ws (171 + 7 * k);
   number = slice_index ws (172 + 7 * k);
 }
+
+-- a rule beside its count
+abbrev pub watch_at : List ℕ → ℕ → Watch
+watch_at ws k = record { rule = rule_at ws k; count = slice_index ws (278 + k) }
 
 unfoldable pub schedule_in : List ℕ → List Activity
 schedule_in ws = map (activity_at ws) (range_with_len 0 (slice_index ws 69))

@@ -1,92 +1,68 @@
-ghost use Rattle.std.specs.Prelude.{◌≡◌, ℕ, ◌<◌, ◌≤◌, true, length, slice_index};
+ghost use Rattle.std.specs.Prelude.{◌≡◌, ℕ, ◌<◌, ◌≤◌, true, ◌⊎◌, slice_index};
+ghost use Rattle.parameters.specs.Places.{may_put};
 ghost use Rattle.layout.specs.Fault.{activity_fault, rule_fault, at_fault, Lowest, Small, Later, Placed, Watches, Puts, Sane, FaultsRight};
 
 use crate::map::{ACTIVITIES, ACTIVITY, COUNTS, RULE, RULES, TIME, WAITING, WORDS};
+use crate::read::{activity, watch};
 use parameters::{PLACES, may_put};
-use rules::COUNT;
-use schedule::ROOM;
+use rules::{COUNT, Rule};
+use schedule::{Activity, ROOM};
 
 // The largest number that a flight of fewer than 2^62 ticks can leave.
 const LARGEST: u64 = 1 << 62;
 
 /// The lowest word that no lawful flight of fewer than 2^62 ticks leaves, if there is one.
-pub fn fault(words: &[u64]) -> Option<usize>
-    requires { length words.now ≡ 294 }
+pub fn fault(words: &[u64; 294]) -> Option<usize>
     ensures { Lowest words.now result }
 {
     // Mostly no word is at fault, which is found out sooner than the lowest one.
     if sane(words) {
         return None;
     }
-    for k in 0..WORDS {
-        if at_fault(words, k) {
-            return Some(k);
-        }
-    }
-    None
+    (0..WORDS).find(|k| at_fault(words, *k))
 }
 
 // Whether surely no word is at fault.
-fn sane(words: &[u64]) -> bool
-    requires { length words.now ≡ 294 }
+fn sane(words: &[u64; 294]) -> bool
     ensures { result ≡ true → Sane words.now }
 {
     small(words) && words[WAITING] <= ROOM as u64 && activities_sane(words) && rules_sane(words)
 }
 
 // Whether surely no word is too large: none is larger than all of them or-ed together.
-fn small(words: &[u64]) -> bool
-    requires { length words.now ≡ 294 }
+fn small(words: &[u64; 294]) -> bool
     ensures { result ≡ true → Small words.now }
 {
-    let mut all = 0;
-    for k in 0..WORDS {
-        all |= words[k];
-    }
-    all <= LARGEST
+    words.iter().fold(0, |all, word| all | word) <= LARGEST
 }
 
-fn activities_sane(words: &[u64]) -> bool
-    requires whole { length words.now ≡ 294 }
-    requires few_wait { slice_index words.now 69 ≤ 32 }
+fn activities_sane(words: &[u64; 294]) -> bool
+    requires { slice_index words.now 69 ≤ 32 }
     ensures { result ≡ true → ((i : ℕ) → i < slice_index words.now 69 → Later words.now i × Placed words.now i) }
 {
-    for i in 0..words[WAITING] as usize {
-        let release = words[ACTIVITIES + ACTIVITY * i];
-        let place = words[ACTIVITIES + 1 + ACTIVITY * i];
-        if release <= words[TIME] || !may_put(place) {
-            return false;
-        }
-    }
-    true
+    (0..words[WAITING] as usize).all(|i| activity_sane(words[TIME], activity(words, i)))
 }
 
-fn rules_sane(words: &[u64]) -> bool
-    requires { length words.now ≡ 294 }
+fn activity_sane(time: u64, activity: Activity) -> bool
+    ensures { result ≡ true → (time < activity.release) × (may_put activity.place ≡ true) }
+{
+    time < activity.release && may_put(activity.place)
+}
+
+fn rules_sane(words: &[u64; 294]) -> bool
     ensures { result ≡ true → ((i : ℕ) → i < 16 → Watches words.now i × Puts words.now i) }
 {
-    for i in 0..COUNT {
-        if !rule_sane(words, i) {
-            return false;
-        }
-    }
-    true
+    (0..COUNT).all(|i| rule_sane(watch(words, i).rule))
 }
 
-fn rule_sane(words: &[u64], i: usize) -> bool
-    requires whole { length words.now ≡ 294 }
-    requires inside { i < 16 }
-    ensures { result ≡ true → Watches words.now i × Puts words.now i }
+fn rule_sane(rule: Rule) -> bool
+    ensures { result ≡ true → (rule.watches < 64) × ((rule.needs ≡ 0) ⊎ ((rule.safes ≡ true) ⊎ (may_put rule.place ≡ true))) }
 {
-    let needs = words[RULES + 3 + RULE * i];
-    let safes = words[RULES + 4 + RULE * i];
-    words[RULES + RULE * i] < PLACES as u64
-        && (needs == 0 || safes == 1 || may_put(words[RULES + 5 + RULE * i]))
+    rule.watches < PLACES as u64 && (rule.needs == 0 || rule.safes || may_put(rule.place))
 }
 
-fn at_fault(words: &[u64], k: usize) -> bool
-    requires whole { length words.now ≡ 294 }
-    requires inside { k < 294 }
+fn at_fault(words: &[u64; 294], k: usize) -> bool
+    requires { k < 294 }
     ensures { result ≡ at_fault words.now k }
 {
     if words[k] > LARGEST {
@@ -105,8 +81,7 @@ fn at_fault(words: &[u64], k: usize) -> bool
 }
 
 // Of an activity that waits: its time is not after now, or its place may not be put.
-fn activity_fault(words: &[u64], k: usize) -> bool
-    requires whole { length words.now ≡ 294 }
+fn activity_fault(words: &[u64; 294], k: usize) -> bool
     requires past { 70 ≤ k }
     requires inside { k < 166 }
     ensures { result ≡ activity_fault words.now k }
@@ -122,8 +97,7 @@ fn activity_fault(words: &[u64], k: usize) -> bool
 }
 
 // Of a rule: it watches no parameter, or it is on and puts where it may not.
-fn rule_fault(words: &[u64], k: usize) -> bool
-    requires whole { length words.now ≡ 294 }
+fn rule_fault(words: &[u64; 294], k: usize) -> bool
     requires past { 166 ≤ k }
     requires inside { k < 278 }
     ensures { result ≡ rule_fault words.now k }
@@ -136,8 +110,6 @@ fn rule_fault(words: &[u64], k: usize) -> bool
 }
 
 /// The words at fault are those that the map forbids.
-pub fn faults_right() -> u8
+pub fn faults_right()
     ensures { FaultsRight }
-{
-    0
-}
+{}

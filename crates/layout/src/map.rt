@@ -30,8 +30,6 @@ pub const ACTIVITY: usize = 3;
 pub const RULE: usize = 7;
 
 /// What was written is what is read.
-pub fn reads_back() -> u8
+pub fn reads_back()
     ensures { ReadsBack }
-{
-    0
-}
+{}

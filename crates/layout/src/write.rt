@@ -1,13 +1,14 @@
-ghost use Rattle.std.specs.Prelude.{◌≡◌, ◌+◌, ◌*◌, ◌≤◌, ◌++◌, length, take, drop};
+ghost use Rattle.std.specs.Prelude.{◌≡◌, ◌+◌, ◌*◌, ◌≤◌, ◌++◌, length, map, take, drop};
 ghost use Rattle.std.specs.List.{flat_map};
-ghost use Rattle.schedule.specs.Waiting.{waiting};
+ghost use Rattle.rules.specs.Watches.{rule_of};
 ghost use Rattle.satellite.specs.Model.{model};
 ghost use Rattle.layout.specs.Map.{activity_words, rule_words, words_of};
 
 use crate::map::{ACTIVITIES, ACTIVITY, COUNTS, PARAMETERS, RULE, RULES, TIME, WAITING, WORDS};
-use rules::{COUNT, Rule};
+use rules::{COUNT, Watch};
 use satellite::Satellite;
-use schedule::{Activity, Schedule};
+use schedule::Activity;
+use std::array;
 
 /// The words of a satellite.
 pub fn words(satellite: Satellite) -> [u64; 294]
@@ -20,64 +21,51 @@ pub fn words(satellite: Satellite) -> [u64; 294]
         satellite.rejected,
         satellite.missed,
     ];
+    let schedule = &satellite.schedule;
+    let watches = &satellite.rules.watches;
+    let counts: [u64; COUNT] = array::from_fn(|k| watches[k].count);
     let mut words = [0; WORDS];
-    lay(&mut words, TIME, head);
-    lay(&mut words, PARAMETERS, satellite.parameters.values);
-    lay(&mut words, WAITING, [satellite.schedule.count as u64]);
-    lay_activities(&mut words, satellite.schedule);
-    lay_rules(&mut words, satellite.rules.list);
-    lay(&mut words, COUNTS, satellite.rules.counts);
+    lay(&mut words, TIME, &head);
+    lay(&mut words, PARAMETERS, &satellite.parameters.values);
+    lay(&mut words, WAITING, &[schedule.len() as u64]);
+    lay_activities(&mut words, schedule.waiting());
+    lay_rules(&mut words, watches);
+    lay(&mut words, COUNTS, &counts);
     words
 }
 
-fn lay_activities(words: &mut [u64], schedule: Schedule)
-    requires { length words.old ≡ 294 }
-    ensures { words.new ≡ take 70 words.old ++ (flat_map activity_words (waiting schedule) ++ drop (70 + 3 * length (waiting schedule)) words.old) }
+// The loops that lay count places, since these say where a thing is written. To make arrays of the numbers of all
+// activities and all rules first, and to lay those, takes twice as long; the two loops differ in the size of an array,
+// over which no bound `Fn` is proved, and in what they read.
+fn lay_activities(words: &mut [u64; 294], waiting: &[Activity])
+    requires { length waiting.now ≤ 32 }
+    ensures { words.new ≡ take 70 words.old ++ (flat_map activity_words waiting.now ++ drop (70 + 3 * length waiting.now) words.old) }
 {
-    for k in 0..schedule.count {
+    for k in 0..waiting.len() {
         lay(
             words,
             ACTIVITIES + ACTIVITY * k,
-            activity_words(schedule.activities[k]),
+            &<[u64; ACTIVITY]>::from(waiting[k]),
         );
     }
 }
 
-fn activity_words(activity: Activity) -> [u64; 3]
-    ensures { result ≡ activity_words activity }
-{
-    [activity.release, activity.place, activity.number]
-}
-
-fn lay_rules(words: &mut [u64], rules: [Rule; 16])
-    requires { length words.old ≡ 294 }
-    ensures { words.new ≡ take 166 words.old ++ (flat_map rule_words rules ++ drop 278 words.old) }
+fn lay_rules(words: &mut [u64; 294], watches: &[Watch; 16])
+    ensures { words.new ≡ take 166 words.old ++ (flat_map rule_words (map rule_of watches.now) ++ drop 278 words.old) }
 {
     for k in 0..COUNT {
-        lay(words, RULES + RULE * k, rule_words(rules[k]));
+        lay(
+            words,
+            RULES + RULE * k,
+            &<[u64; RULE]>::from(watches[k].rule),
+        );
     }
-}
-
-fn rule_words(rule: Rule) -> [u64; 7]
-    ensures { result ≡ rule_words rule }
-{
-    [
-        rule.watches,
-        rule.limit,
-        u64::from(rule.upward),
-        rule.needs,
-        u64::from(rule.safes),
-        rule.place,
-        rule.number,
-    ]
 }
 
 // Writes a part of the words, from a place on.
-fn lay<const M: usize>(words: &mut [u64], from: usize, part: [u64; M])
-    requires { from + M ≤ length words.old }
-    ensures { words.new ≡ take from words.old ++ (part.entry ++ drop (from + M) words.old) }
+fn lay(words: &mut [u64; 294], from: usize, part: &[u64])
+    requires { from + length part.now ≤ 294 }
+    ensures { words.new ≡ take from words.old ++ (part.now ++ drop (from + length part.now) words.old) }
 {
-    for i in 0..M {
-        words[from + i] = part[i];
-    }
+    words[from..from + part.len()].copy_from_slice(part);
 }

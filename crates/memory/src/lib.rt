@@ -2,7 +2,7 @@
 
 #![tactic(auto)]
 
-ghost use Rattle.std.specs.Prelude.{◌≡◌, ◌+◌, ◌*◌, ◌<◌, length, slice_set};
+ghost use Rattle.std.specs.Prelude.{◌≡◌, ◌+◌, ◌*◌, ◌<◌, length};
 ghost use Rattle.memory.specs.Threefold.{majority, voted, voted_words, thrice, VotesMend, UpsetsHappen};
 
 /// Of three copies the number on which two agree, the first if none do.
@@ -45,6 +45,7 @@ impl<'a, const N: usize> Copies<'a, N> {
         requires { length words.old ≡ N }
         ensures { words.new ≡ voted_words N self.now.numbers.now }
     {
+        // A closure that borrows `self`, as for `from_fn`, gets no proof: a lifetime and a const in one type.
         for k in 0..N {
             words[k] = self.word(k);
         }
@@ -56,32 +57,19 @@ pub fn store<const N: usize>(memory: &mut [u64], words: [u64; N])
     requires { length memory.old ≡ 3 * N }
     ensures { memory.new ≡ thrice words.entry }
 {
-    for k in 0..N {
-        write(memory, N, k, words[k]);
-    }
-}
-
-// Writes a word to its three places among n words.
-fn write(memory: &mut [u64], n: usize, k: usize, word: u64)
-    requires whole { length memory.old ≡ 3 * n }
-    requires inside { k < n }
-    ensures { memory.new ≡ slice_set (slice_set (slice_set memory.old k word) (n + k) word) (2 * n + k) word }
-{
-    memory[k] = word;
-    memory[n + k] = word;
-    memory[2 * n + k] = word;
+    let (first, others) = memory.split_at_mut(N);
+    let (second, third) = others.split_at_mut(N);
+    first.copy_from_slice(&words);
+    second.copy_from_slice(&words);
+    third.copy_from_slice(&words);
 }
 
 /// An upset in one copy of each word at most is voted away.
-pub fn votes_mend() -> u8
+pub fn votes_mend()
     ensures { VotesMend }
-{
-    0
-}
+{}
 
 /// There are such upsets, in every copy of every word.
-pub fn upsets_happen() -> u8
+pub fn upsets_happen()
     ensures { UpsetsHappen }
-{
-    0
-}
+{}

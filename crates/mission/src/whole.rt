@@ -1,13 +1,12 @@
 ghost use Rattle.std.specs.Prelude.{◌≡◌, MatchResult, OnOk};
 ghost use Rattle.std.specs.Fmt.{IsPlainFormatter, WritesOnOk};
 ghost use Rattle.mission.specs.declared.whole.Failure.TheVariants.{Unread, Unwritten};
-ghost use Rattle.text.specs.declared.fault.Fault.TheVariants.{Memory};
 ghost use Rattle.mission.specs.Run.{Flown, Storied, Broke, Untouched, line_told};
 
 use crate::aloft::{Aloft, Output};
-use std::alloc::{AllocError, Global};
+use std::alloc::Global;
 use std::fmt;
-use text::{Fault, Reading, Stop, check, heard_after, piece_len, read_line};
+use text::{Event, Fault, Statements, check};
 
 /// Why a text is not flown, or not to its end.
 #[derive(Clone, Copy, Drop)]
@@ -23,14 +22,6 @@ impl From<Fault> for Failure {
 
     fn from(fault: Fault) -> Failure {
         Failure::Unread(fault)
-    }
-}
-
-impl From<AllocError> for Failure {
-    ghost from_gives = { λ _ r. r ≡ Unread Memory };
-
-    fn from(_e: AllocError) -> Failure {
-        Failure::Unread(Fault::Memory)
     }
 }
 
@@ -61,27 +52,12 @@ fn run<W: fmt::Write>(heap: Global, text: &[u8], out: &mut fmt::Formatter<W>) ->
     ensures { MatchResult result (λ _. IsPlainFormatter out.old → Flown W.Write.write_str_gives text.now out.old out.new) (λ f. Broke text.now f) }
 {
     let mut aloft = Aloft::launched();
-    let mut heard = false;
-    let mut rest = text;
-    let mut line = 0;
-    loop {
-        let (one, more) = rest.split_at(piece_len(rest, Stop::Line));
-        match read_line(heap, one, heard)? {
-            Reading::Nothing => {}
-            Reading::Said(event) => {
-                tell(aloft.step(event), out)?;
-                heard = heard_after(heard, event);
-            }
-            Reading::Unread(expected) => {
-                return Err(Failure::Unread(Fault::Unreadable { line, expected }));
-            }
+    for read in Statements::<Event>::new(heap, text) {
+        if let Some(event) = read? {
+            tell(aloft.step(event), out)?;
         }
-        if more.is_empty() {
-            return Ok(());
-        }
-        rest = &more[1..];
-        line += 1;
     }
+    Ok(())
 }
 
 // Writes the line of a tick; an event that is no tick has none.

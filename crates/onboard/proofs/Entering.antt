@@ -74,10 +74,6 @@ length_says m r f t e h = at_once (wrong_length (length m) (length r) (length f)
     at_once None n x = cc
     at_once (Some lent) n x = let z : e ≡ Length lent = cc in subst (λ (y : Refusal). Says (Err y) m r f t m t) (sym z) (n, refl, refl)
 
-pub lengths_right : (w : Option Lent) → Ok tt ≡ refused_for w → w ≡ None
-lengths_right None x = refl
-lengths_right (Some lent) x = cc
-
 goes_on : (d : Result (Unit {0}) Refusal) (m r f t m₁ t₁ : List ℕ) → ((k : ℕ) → get_or r k 0 ≤ 65535) → Says d m r f t m₁ t₁ → GoesOn d m r f t m₁ t₁
 goes_on (Ok u) m r f t m₁ t₁ small says is kept flown upset short lr lf lt =
     let i : Inputs = record { readings = r; frame = f } in

@@ -2,7 +2,7 @@
 
 #![tactic(auto)]
 
-ghost use Rattle.std.specs.Prelude.{◌≡◌, Some};
+ghost use Rattle.std.specs.Prelude.{◌≡◌, length, Some, None, Err, MatchResult};
 ghost use Rattle.onboard.specs.Entry.{refusal_number, refusal_place, refusal_text, wrong_length, refused_for, Says, GoesOn, Launches};
 
 use layout::{WORDS, fault};
@@ -30,6 +30,7 @@ pub enum Refusal {
     Unfit { word: usize },
 }
 
+// The numbers by which boards, texts and people know a refusal.
 impl Refusal {
     pub fn number(self) -> u64
         ensures { result ≡ refusal_number self }
@@ -86,7 +87,7 @@ pub fn tick(
     ensures says { Says result memory.old readings.now frame.now report.old memory.new report.new }
     ensures flies { GoesOn result memory.old readings.now frame.now report.old memory.new report.new }
 {
-    check_lengths(memory.len(), readings.len(), frame.len(), report.len())?;
+    let readings = lent_right(memory.len(), readings, frame.len(), report.len())?;
     let mut words = [0; WORDS];
     Copies::<WORDS>::new(memory).read(&mut words);
     if let Some(word) = fault(&words) {
@@ -94,24 +95,30 @@ pub fn tick(
     }
     let satellite = layout::satellite(&words).tick(readings, frame);
     store(memory, layout::words(satellite));
-    report.copy_from_slice(&Telemetry::of(&satellite).numbers());
+    report.copy_from_slice(&Telemetry::from(&satellite).numbers());
     Ok(())
 }
 
-// Refuses the first that has another length than it should have.
-fn check_lengths(memory: usize, readings: usize, frame: usize, report: usize) -> Result<(), Refusal>
-    ensures { result ≡ refused_for (wrong_length memory readings frame report) }
+// The sixteen readings, if all that is lent has the length that it should have; else the first that has another is refused.
+fn lent_right(
+    memory: usize,
+    readings: &[u16],
+    frame: usize,
+    report: usize,
+) -> Result<&[u16; 16], Refusal>
+    ensures { MatchResult result (λ sixteen. (sixteen.now ≡ readings.now) × (wrong_length memory (length readings.now) frame report ≡ None)) (λ refusal. Err refusal ≡ refused_for (wrong_length memory (length readings.now) frame report)) }
 {
-    let wrong = if memory != 3 * WORDS {
-        Lent::Memory
-    } else if readings != INSTRUMENTS {
-        Lent::Readings
-    } else if frame != 0 && frame != frame::LENGTH {
-        Lent::Frame
-    } else if report != telemetry::LENGTH {
-        Lent::Report
-    } else {
-        return Ok(());
+    if memory != 3 * WORDS {
+        return Err(Refusal::Length(Lent::Memory));
+    }
+    let Ok(sixteen) = <&[u16; INSTRUMENTS]>::try_from(readings) else {
+        return Err(Refusal::Length(Lent::Readings));
     };
-    Err(Refusal::Length(wrong))
+    if frame != 0 && frame != frame::LENGTH {
+        return Err(Refusal::Length(Lent::Frame));
+    }
+    if report != telemetry::LENGTH {
+        return Err(Refusal::Length(Lent::Report));
+    }
+    Ok(sixteen)
 }

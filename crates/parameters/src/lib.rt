@@ -2,7 +2,7 @@
 
 #![tactic(auto)]
 
-ghost use Rattle.std.specs.Prelude.{◌≡◌, ◌<◌, length, replicate, slice_index, slice_set};
+ghost use Rattle.std.specs.Prelude.{◌≡◌, ◌<◌, replicate, slice_index, slice_set};
 ghost use Rattle.parameters.specs.Places.{may_put, read_in};
 
 /// How many parameters there are, and how many of them are instruments.
@@ -19,7 +19,7 @@ pub struct Parameters {
 pub fn may_put(place: u64) -> bool
     ensures { result ≡ may_put place }
 {
-    16 <= place && place <= 63
+    (16..=63).contains(&place)
 }
 
 impl Parameters {
@@ -33,14 +33,11 @@ impl Parameters {
     }
 
     /// The first sixteen become what the instruments read.
-    pub fn read(self, readings: &[u16]) -> Parameters
-        requires { length readings.now ≡ 16 }
+    pub fn read(self, readings: &[u16; 16]) -> Parameters
         ensures { result.values ≡ read_in readings.now self.values }
     {
         let mut values = self.values;
-        for k in 0..INSTRUMENTS {
-            values[k] = u64::from(readings[k]);
-        }
+        values[..INSTRUMENTS].copy_from_slice(&readings.map(u64::from));
         Parameters { values }
     }
 

@@ -1,1 +1,3 @@
 pub mod Watching
+pub mod Numbers
+pub mod Watches

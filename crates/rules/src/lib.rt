@@ -4,11 +4,12 @@
 
 ghost use Rattle.std.specs.Prelude.{◌≡◌, ◌+◌, ◌<◌, ◌≤◌, set, replicate};
 ghost use Rattle.rules.specs.Watching.{off, is_past, next_count, acts, may_set};
+ghost use Rattle.rules.specs.Watches.{rules_of, counts_of};
 
 mod rule;
 
 use parameters::may_put;
-pub use rule::Rule;
+pub use rule::{Rule, Rules, Watch};
 
 /// How many rules there are.
 pub const COUNT: usize = 16;
@@ -23,13 +24,6 @@ pub const OFF: Rule = Rule {
     place: 0,
     number: 0,
 };
-
-/// The rules, and for how many ticks each has been past its limit.
-#[derive(Clone, Copy)]
-pub struct Rules {
-    pub list: [Rule; 16],
-    pub counts: [u64; 16],
-}
 
 impl Rule {
     /// Whether a value is past the limit.
@@ -69,25 +63,25 @@ impl Rule {
 impl Rules {
     /// All rules are off.
     pub fn at_launch() -> Rules
-        ensures list { result.list ≡ replicate 16 off }
-        ensures counts { result.counts ≡ replicate 16 0 }
+        ensures rules { rules_of result ≡ replicate 16 off }
+        ensures counts { counts_of result ≡ replicate 16 0 }
     {
         Rules {
-            list: [OFF; COUNT],
-            counts: [0; COUNT],
+            watches: [Watch {
+                rule: OFF,
+                count: 0,
+            }; COUNT],
         }
     }
 
     /// A rule is this, and begins from 0.
     pub fn set(self, index: u64, rule: Rule) -> Rules
         requires { index < 16 }
-        ensures list { result.list ≡ set self.list index rule }
-        ensures counts { result.counts ≡ set self.counts index 0 }
+        ensures rules { rules_of result ≡ set (rules_of self) index rule }
+        ensures counts { counts_of result ≡ set (counts_of self) index 0 }
     {
-        let mut list = self.list;
-        let mut counts = self.counts;
-        list[index as usize] = rule;
-        counts[index as usize] = 0;
-        Rules { list, counts }
+        let mut watches = self.watches;
+        watches[index as usize] = Watch { rule, count: 0 };
+        Rules { watches }
     }
 }

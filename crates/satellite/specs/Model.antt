@@ -1,5 +1,6 @@
 -- The state that a satellite of the code is.
 use Rattle.schedule.specs.Waiting.{waiting}
+use Rattle.rules.specs.Watches.{rules_of, counts_of}
 use Rattle.satellite.specs.State.{State}
 use Rattle.satellite.specs.declared.state.Satellite.{Satellite}
 
@@ -12,6 +13,6 @@ model s = record {
   missed = s.missed;
   parameters = s.parameters.values;
   schedule = waiting s.schedule;
-  rules = s.rules.list;
-  counts = s.rules.counts;
+  rules = rules_of s.rules;
+  counts = counts_of s.rules;
 }

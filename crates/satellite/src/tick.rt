@@ -1,7 +1,6 @@
-ghost use Rattle.std.specs.Prelude.{◌≡◌, ◌<◌, ◌≤◌, false, length, slice_index, slice_index_or};
+ghost use Rattle.std.specs.Prelude.{◌≡◌, ◌<◌, ◌≤◌, false};
 ghost use Rattle.schedule.specs.Waiting.{Placed, waiting};
-ghost use Rattle.rules.specs.Watching.{off};
-ghost use Rattle.satellite.specs.State.{at_launch};
+ghost use Rattle.satellite.specs.State.{at_launch, rule, count};
 ghost use Rattle.satellite.specs.Story.{begun, looked, acted, watched, released, ticked};
 ghost use Rattle.satellite.specs.Fit.{Fit, RulesFit, most};
 ghost use Rattle.satellite.specs.Model.{model};
@@ -9,7 +8,7 @@ ghost use Rattle.satellite.specs.Model.{model};
 use crate::state::Satellite;
 use frame::decode;
 use parameters::Parameters;
-use rules::{COUNT, Rule, Rules};
+use rules::{COUNT, Rule, Rules, Watch};
 use schedule::Schedule;
 
 impl Satellite {
@@ -31,9 +30,8 @@ impl Satellite {
 
     /// One tick: time and readings, rules, activities that are due, and then the command of the
     /// frame that came up, if it is whole.
-    pub fn tick(self, readings: &[u16], frame: &[u64]) -> Satellite
-        requires sixteen { length readings.now ≡ 16 }
-        requires fit { Fit (model self) }
+    pub fn tick(self, readings: &[u16; 16], frame: &[u64]) -> Satellite
+        requires { Fit (model self) }
         ensures { model result ≡ ticked (record { readings = readings.now; frame = frame.now }) (model self) }
     {
         // To hand the satellite round copies it, so the last two steps are looked at first.
@@ -51,9 +49,8 @@ impl Satellite {
     }
 
     /// Time goes on by one, and the first sixteen parameters are what the instruments read.
-    pub fn begin(self, readings: &[u16]) -> Satellite
-        requires sixteen { length readings.now ≡ 16 }
-        requires early { self.time ≤ most }
+    pub fn begin(self, readings: &[u16; 16]) -> Satellite
+        requires { self.time ≤ most }
         ensures { model result ≡ begun readings.now (model self) }
     {
         Satellite {
@@ -69,10 +66,11 @@ impl Satellite {
         ensures { model result ≡ watched 16 (model self) }
     {
         let mut satellite = self;
+        // By place, since the satellite is handed round: each rule sees what the ones before it did.
         for k in 0..COUNT {
-            let rule = satellite.rules.list[k];
+            let rule = satellite.rules.watches[k].rule;
             let count = satellite.look(k);
-            satellite.rules.counts[k] = count;
+            satellite.rules.watches[k].count = count;
             if rule.acts(count) {
                 satellite = satellite.act(rule);
             }
@@ -83,12 +81,12 @@ impl Satellite {
     /// For how many ticks a rule has been past its limit, with this one.
     pub fn look(&self, k: usize) -> u64
         requires inside { k < 16 }
-        requires watches { (slice_index_or self.now.rules.list k off).watches < 64 }
-        requires counted { slice_index self.now.rules.counts k ≤ most }
+        requires watches { (rule (model self.now) k).watches < 64 }
+        requires counted { count (model self.now) k ≤ most }
         ensures { result ≡ looked k (model self.now) }
     {
-        let rule = self.rules.list[k];
-        rule.next_count(self.parameters.at(rule.watches), self.rules.counts[k])
+        let Watch { rule, count } = self.rules.watches[k];
+        rule.next_count(self.parameters.at(rule.watches), count)
     }
 
     /// What a rule does when it acts.

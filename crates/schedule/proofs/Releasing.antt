@@ -1,10 +1,10 @@
 -- Activities looked at one after the other: those that are due put or are missed, the others wait on.
-use Rattle.std.proofs.Common.{◌≡◌, ℕ, ◌+◌, ◌<◌, ◌≤◌, Bool, true, false, cond, eqb, List, [], ◌∷◌, ◌++◌, length, get_or, set, sym, refl, ap, ◌∙◌, subst, arith, length-append, length-set, get_or-set_other}
+use Rattle.std.proofs.Common.{◌≡◌, ℕ, ◌+◌, ◌≤◌, Bool, true, false, cond, eqb, List, [], ◌∷◌, ◌++◌, ◌||◌, length, set, sym, refl, ap, ◌∙◌, subst, arith, length-append, length-set}
+use Rattle.std.specs.List.{list_any}
 use Rattle.std.proofs.lemmas.Bool.{eq-eqb, ne_eqb, cond-true, cond-false, true≢false, eqb-true, eqb-false}
 use Rattle.schedule.specs.declared.activity.Activity.{Activity}
 use Rattle.schedule.specs.declared.activity.Fate.TheVariants.{Waits, Missed, Done}
-use Rattle.schedule.specs.Waiting.{no_activity, first, due, still_waiting, put_all, NoneDue, SomeDue, Placed, fate_of}
-use Rattle.schedule.proofs.First.{length_first, first_more, first_push, getD_first}
+use Rattle.schedule.specs.Waiting.{due, still_waiting, put_all, NoneDue, fate_of}
 
 swap : (b c : Bool) (x a : Activity) (l : List Activity) → cond b (x ∷ cond c (l ++ (a ∷ [])) l) (cond c (l ++ (a ∷ [])) l) ≡ cond c (cond b (x ∷ l) l ++ (a ∷ [])) (cond b (x ∷ l) l)
 swap true true x a l = refl
@@ -18,131 +18,89 @@ swap_else true false x a l = refl
 swap_else false true x a l = refl
 swap_else false false x a l = refl
 
-pub due_push : (t : ℕ) (xs : List Activity) (a : Activity) → due t (xs ++ (a ∷ [])) ≡ cond (eqb a.release t) (due t xs ++ (a ∷ [])) (due t xs)
+due_push : (t : ℕ) (xs : List Activity) (a : Activity) → due t (xs ++ (a ∷ [])) ≡ cond (eqb a.release t) (due t xs ++ (a ∷ [])) (due t xs)
 due_push t [] a = refl
 due_push t (x ∷ xs) a = (λ i. cond (eqb x.release t) (x ∷ due_push t xs a i) (due_push t xs a i)) ∙ swap (eqb x.release t) (eqb a.release t) x a (due t xs)
 
-pub still_push : (t : ℕ) (xs : List Activity) (a : Activity) → still_waiting t (xs ++ (a ∷ [])) ≡ cond (eqb a.release t) (still_waiting t xs) (still_waiting t xs ++ (a ∷ []))
+still_push : (t : ℕ) (xs : List Activity) (a : Activity) → still_waiting t (xs ++ (a ∷ [])) ≡ cond (eqb a.release t) (still_waiting t xs) (still_waiting t xs ++ (a ∷ []))
 still_push t [] a = refl
 still_push t (x ∷ xs) a = (λ i. cond (eqb x.release t) (still_push t xs a i) (x ∷ still_push t xs a i)) ∙ swap_else (eqb x.release t) (eqb a.release t) x a (still_waiting t xs)
 
-pub put_push : (xs : List Activity) (a : Activity) (values : List ℕ) → put_all (xs ++ (a ∷ [])) values ≡ set (put_all xs values) a.place a.number
+put_push : (xs : List Activity) (a : Activity) (values : List ℕ) → put_all (xs ++ (a ∷ [])) values ≡ set (put_all xs values) a.place a.number
 put_push [] a values = refl
 put_push (x ∷ xs) a values = put_push xs a (set values x.place x.number)
 
--- after k of the activities were looked at
-pub record Sofar (time : ℕ) (safe : Bool) (given : List Activity) (before : List ℕ) (k stays missed : ℕ) (activities : List Activity) (values : List ℕ) : Type 0 where
-  pub room : length activities ≡ 32
+none_more : (t : ℕ) (x : Activity) (xs : List Activity) (b : Bool) → eqb x.release t ≡ b → (b || list_any (λ a. eqb a.release t) xs) ≡ false → (list_any (λ a. eqb a.release t) xs ≡ false → NoneDue t xs) → NoneDue t (x ∷ xs)
+none_more t x xs true h f n = absurd (true≢false f)
+none_more t x xs false h f n = (cond-false (eqb x.release t) _ _ h ∙ (n f).0, cond-false (eqb x.release t) _ _ h ∙ ap (λ (l : List Activity). x ∷ l) (n f).1)
+
+-- where no one of them is for now, none is due
+pub none_due : (t : ℕ) (xs : List Activity) → list_any (λ a. eqb a.release t) xs ≡ false → NoneDue t xs
+none_due t [] e = (refl, refl)
+none_due t (x ∷ xs) e = none_more t x xs (eqb x.release t) refl e (none_due t xs)
+
+-- what is left, lost and put once these were looked at
+pub record Sofar (time : ℕ) (safe : Bool) (before : List ℕ) (seen still : List Activity) (missed : ℕ) (values : List ℕ) : Type 0 where
   pub places : length values ≡ 64
-  pub few : stays ≤ k
-  pub small : missed ≤ k
-  pub front : first stays activities ≡ still_waiting time (first k given)
-  pub behind : (j : ℕ) → k ≤ j → get_or activities j no_activity ≡ get_or given j no_activity
-  pub put : values ≡ cond safe before (put_all (due time (first k given)) before)
-  pub lost : missed ≡ cond safe (length (due time (first k given))) 0
+  pub few : length still ≤ length seen
+  pub small : missed ≤ length seen
+  pub front : still ≡ still_waiting time seen
+  pub put : values ≡ cond safe before (put_all (due time seen) before)
+  pub lost : missed ≡ cond safe (length (due time seen)) 0
 
-pub sofar_none : (time : ℕ) (safe : Bool) (given : List Activity) (before : List ℕ) → length given ≡ 32 → length before ≡ 64 → Sofar time safe given before 0 0 0 given before
-sofar_none time true given before l m = record { room = l; places = m; few = omega arith; small = omega arith; front = refl; behind = λ j h. refl; put = refl; lost = refl }
-sofar_none time false given before l m = record { room = l; places = m; few = omega arith; small = omega arith; front = refl; behind = λ j h. refl; put = refl; lost = refl }
+due_on : (t : ℕ) (xs : List Activity) (a : Activity) → a.release ≡ t → due t (xs ++ (a ∷ [])) ≡ due t xs ++ (a ∷ [])
+due_on t xs a e = due_push t xs a ∙ cond-true (eqb a.release t) _ _ (eq-eqb a.release t e)
 
-due_on : (t k : ℕ) (given : List Activity) → (get_or given k no_activity).release ≡ t → due t (first (k + 1) given) ≡ due t (first k given) ++ (get_or given k no_activity ∷ [])
-due_on t k given e = ap (due t) (first_more k given) ∙ due_push t (first k given) (get_or given k no_activity) ∙ cond-true (eqb (get_or given k no_activity).release t) _ _ (eq-eqb (get_or given k no_activity).release t e)
+due_off : (t : ℕ) (xs : List Activity) (a : Activity) → (a.release ≡ t → ⊥) → due t (xs ++ (a ∷ [])) ≡ due t xs
+due_off t xs a f = due_push t xs a ∙ cond-false (eqb a.release t) _ _ (ne_eqb a.release t f)
 
-due_off : (t k : ℕ) (given : List Activity) → ((get_or given k no_activity).release ≡ t → ⊥) → due t (first (k + 1) given) ≡ due t (first k given)
-due_off t k given f = ap (due t) (first_more k given) ∙ due_push t (first k given) (get_or given k no_activity) ∙ cond-false (eqb (get_or given k no_activity).release t) _ _ (ne_eqb (get_or given k no_activity).release t f)
+still_on : (t : ℕ) (xs : List Activity) (a : Activity) → a.release ≡ t → still_waiting t (xs ++ (a ∷ [])) ≡ still_waiting t xs
+still_on t xs a e = still_push t xs a ∙ cond-true (eqb a.release t) _ _ (eq-eqb a.release t e)
 
-still_on : (t k : ℕ) (given : List Activity) → (get_or given k no_activity).release ≡ t → still_waiting t (first (k + 1) given) ≡ still_waiting t (first k given)
-still_on t k given e = ap (still_waiting t) (first_more k given) ∙ still_push t (first k given) (get_or given k no_activity) ∙ cond-true (eqb (get_or given k no_activity).release t) _ _ (eq-eqb (get_or given k no_activity).release t e)
+still_off : (t : ℕ) (xs : List Activity) (a : Activity) → (a.release ≡ t → ⊥) → still_waiting t (xs ++ (a ∷ [])) ≡ still_waiting t xs ++ (a ∷ [])
+still_off t xs a f = still_push t xs a ∙ cond-false (eqb a.release t) _ _ (ne_eqb a.release t f)
 
-still_off : (t k : ℕ) (given : List Activity) → ((get_or given k no_activity).release ≡ t → ⊥) → still_waiting t (first (k + 1) given) ≡ still_waiting t (first k given) ++ (get_or given k no_activity ∷ [])
-still_off t k given f = ap (still_waiting t) (first_more k given) ∙ still_push t (first k given) (get_or given k no_activity) ∙ cond-false (eqb (get_or given k no_activity).release t) _ _ (ne_eqb (get_or given k no_activity).release t f)
+-- one more that waits on, is missed, or puts its number
+pub waits_on : (time : ℕ) (safe : Bool) (before : List ℕ) (seen still new : List Activity) (missed : ℕ) (values : List ℕ) (a : Activity) → (a.release ≡ time → ⊥) → new ≡ still ++ (a ∷ [])
+    → Sofar time safe before seen still missed values → Sofar time safe before (seen ++ (a ∷ [])) new missed values
+waits_on time safe before seen still new missed values a f e s = record {
+  places = s.places;
+  few = omega (arith, ap length e, length-append still (a ∷ []), length-append seen (a ∷ []), s.few);
+  small = omega (arith, length-append seen (a ∷ []), s.small);
+  front = e ∙ ap (λ (l : List Activity). l ++ (a ∷ [])) s.front ∙ sym (still_off time seen a f);
+  put = s.put ∙ ap (λ (d : List Activity). cond safe before (put_all d before)) (sym (due_off time seen a f));
+  lost = s.lost ∙ ap (λ (d : List Activity). cond safe (length d) 0) (sym (due_off time seen a f));
+}
 
--- one more that is not due
-pub none_more : (t k : ℕ) (given : List Activity) → NoneDue t (first k given) → ((get_or given k no_activity).release ≡ t → ⊥) → NoneDue t (first (k + 1) given)
-none_more t k given h f = (
-  due_off t k given f ∙ h.0,
-  still_off t k given f ∙ ap (λ (l : List Activity). l ++ (get_or given k no_activity ∷ [])) h.1 ∙ sym (first_more k given),
-)
+pub missing : (time : ℕ) (safe : Bool) (before : List ℕ) (seen still : List Activity) (missed : ℕ) (values : List ℕ) (a : Activity) → a.release ≡ time → safe ≡ true
+    → Sofar time safe before seen still missed values → Sofar time safe before (seen ++ (a ∷ [])) still (missed + 1) values
+missing time true before seen still missed values a e y s = record {
+  places = s.places;
+  few = omega (arith, length-append seen (a ∷ []), s.few);
+  small = omega (arith, length-append seen (a ∷ []), s.small);
+  front = s.front ∙ sym (still_on time seen a e);
+  put = s.put;
+  lost = ap (λ n. n + 1) s.lost ∙ sym (ap length (due_on time seen a e) ∙ length-append (due time seen) (a ∷ []));
+}
+missing time false before seen still missed values a e y s = absurd (true≢false (sym y))
 
--- one that is due
-pub some_at : (t n k : ℕ) (given : List Activity) → k < n → (get_or given k no_activity).release ≡ t → SomeDue t (first n given)
-some_at t n k given lt e = (k, (omega (arith, length_first n given), ap (λ (a : Activity). a.release) (getD_first n k given lt) ∙ e))
-
-pub waits_on : (time : ℕ) (safe : Bool) (given : List Activity) (before : List ℕ) (k stays missed : ℕ) (activities : List Activity) (values : List ℕ) → k < 32
-    → Sofar time safe given before k stays missed activities values → ((get_or activities k no_activity).release ≡ time → ⊥)
-    → Sofar time safe given before (k + 1) (stays + 1) missed (set activities stays (get_or activities k no_activity)) values
-waits_on time safe given before k stays missed activities values lt s f =
-    let a : get_or activities k no_activity ≡ get_or given k no_activity = s.behind k (omega arith) in
-    let g : (get_or given k no_activity).release ≡ time → ⊥ = λ e. f (ap (λ (x : Activity). x.release) a ∙ e) in
-    record {
-      room = length-set activities stays (get_or activities k no_activity) ∙ s.room;
-      places = s.places;
-      few = (let h = s.few in omega arith);
-      small = (let h = s.small in omega arith);
-      front = first_push stays activities (get_or activities k no_activity) (let h = s.few in let l = s.room in omega arith) ∙ (λ i. s.front i ++ (a i ∷ [])) ∙ sym (still_off time k given g);
-      behind = λ j h. get_or-set_other activities stays j (get_or activities k no_activity) no_activity (let l = s.few in omega arith) ∙ s.behind j (omega arith);
-      put = s.put ∙ ap (λ (d : List Activity). cond safe before (put_all d before)) (sym (due_off time k given g));
-      lost = s.lost ∙ ap (λ (d : List Activity). cond safe (length d) 0) (sym (due_off time k given g));
-    }
-
-missing : (time : ℕ) (given : List Activity) (before : List ℕ) (k stays missed : ℕ) (activities : List Activity) (values : List ℕ)
-    → Sofar time true given before k stays missed activities values → (get_or activities k no_activity).release ≡ time
-    → Sofar time true given before (k + 1) stays (missed + 1) activities values
-missing time given before k stays missed activities values s e =
-    let g : (get_or given k no_activity).release ≡ time = ap (λ (x : Activity). x.release) (sym (s.behind k (omega arith))) ∙ e in
-    record {
-      room = s.room;
-      places = s.places;
-      few = (let h = s.few in omega arith);
-      small = (let h = s.small in omega arith);
-      front = s.front ∙ sym (still_on time k given g);
-      behind = λ j h. s.behind j (omega arith);
-      put = s.put;
-      lost = ap (λ n. n + 1) s.lost ∙ sym (ap length (due_on time k given g) ∙ length-append (due time (first k given)) (get_or given k no_activity ∷ []));
-    }
-
-putting : (time : ℕ) (given : List Activity) (before : List ℕ) (k stays missed : ℕ) (activities : List Activity) (values : List ℕ)
-    → Sofar time false given before k stays missed activities values → (get_or activities k no_activity).release ≡ time
-    → Sofar time false given before (k + 1) stays missed activities (set values (get_or activities k no_activity).place (get_or activities k no_activity).number)
-putting time given before k stays missed activities values s e =
-    let a : get_or activities k no_activity ≡ get_or given k no_activity = s.behind k (omega arith) in
-    let g : (get_or given k no_activity).release ≡ time = ap (λ (x : Activity). x.release) (sym a) ∙ e in
-    record {
-      room = s.room;
-      places = length-set values (get_or activities k no_activity).place (get_or activities k no_activity).number ∙ s.places;
-      few = (let h = s.few in omega arith);
-      small = (let h = s.small in omega arith);
-      front = s.front ∙ sym (still_on time k given g);
-      behind = λ j h. s.behind j (omega arith);
-      put = (λ i. set (s.put i) (a i).place (a i).number) ∙ sym (ap (λ (d : List Activity). put_all d before) (due_on time k given g) ∙ put_push (due time (first k given)) (get_or given k no_activity) before);
-      lost = s.lost;
-    }
-
--- where an activity that is due puts
-pub placed_at : (time : ℕ) (safe : Bool) (given : List Activity) (before : List ℕ) (n k stays missed : ℕ) (activities : List Activity) (values : List ℕ)
-    → Sofar time safe given before k stays missed activities values → k < n → Placed (first n given) → (get_or activities k no_activity).place < 64
-placed_at time safe given before n k stays missed activities values s lt h =
-    let p = h k (omega (arith, length_first n given)) in
-    rw (s.behind k (omega arith)) (rw (getD_first n k given lt) at p)
+pub putting : (time : ℕ) (safe : Bool) (before : List ℕ) (seen still : List Activity) (missed : ℕ) (values : List ℕ) (a : Activity) → a.release ≡ time → safe ≡ false
+    → Sofar time safe before seen still missed values → Sofar time safe before (seen ++ (a ∷ [])) still missed (set values a.place a.number)
+putting time true before seen still missed values a e y s = absurd (true≢false y)
+putting time false before seen still missed values a e y s = record {
+  places = length-set values a.place a.number ∙ s.places;
+  few = omega (arith, length-append seen (a ∷ []), s.few);
+  small = omega (arith, length-append seen (a ∷ []), s.small);
+  front = s.front ∙ sym (still_on time seen a e);
+  put = ap (λ (l : List ℕ). set l a.place a.number) s.put ∙ sym (ap (λ (d : List Activity). put_all d before) (due_on time seen a e) ∙ put_push (due time seen) a before);
+  lost = s.lost;
+}
 
 -- the same under other names
-pub moved : (time : ℕ) (safe : Bool) (given : List Activity) (before : List ℕ) (k n n' m m' : ℕ) (a a' : List Activity) (v v' : List ℕ)
-    → n' ≡ n → m' ≡ m → a' ≡ a → v' ≡ v → Sofar time safe given before k n m a v → Sofar time safe given before k n' m' a' v'
-moved time safe given before k n n' m m' a a' v v' en em ea ev s =
-    subst (λ x. Sofar time safe given before k x m' a' v') (sym en) (subst (λ x. Sofar time safe given before k n x a' v') (sym em)
-    (subst (λ (x : List Activity). Sofar time safe given before k n m x v') (sym ea) (subst (λ (x : List ℕ). Sofar time safe given before k n m a x) (sym ev) s)))
-
-pub missed_on : (time : ℕ) (safe : Bool) (given : List Activity) (before : List ℕ) (k stays missed : ℕ) (activities : List Activity) (values : List ℕ) → safe ≡ true
-    → Sofar time safe given before k stays missed activities values → (get_or activities k no_activity).release ≡ time
-    → Sofar time safe given before (k + 1) stays (missed + 1) activities values
-missed_on time true given before k stays missed activities values e = missing time given before k stays missed activities values
-missed_on time false given before k stays missed activities values e = absurd (true≢false (sym e))
-
-pub put_on : (time : ℕ) (safe : Bool) (given : List Activity) (before : List ℕ) (k stays missed : ℕ) (activities : List Activity) (values : List ℕ) → safe ≡ false
-    → Sofar time safe given before k stays missed activities values → (get_or activities k no_activity).release ≡ time
-    → Sofar time safe given before (k + 1) stays missed activities (set values (get_or activities k no_activity).place (get_or activities k no_activity).number)
-put_on time true given before k stays missed activities values e = absurd (true≢false e)
-put_on time false given before k stays missed activities values e = putting time given before k stays missed activities values
+pub moved : (time : ℕ) (safe : Bool) (before : List ℕ) (seen seen' still still' : List Activity) (missed missed' : ℕ) (values values' : List ℕ)
+    → seen' ≡ seen → still' ≡ still → missed' ≡ missed → values' ≡ values → Sofar time safe before seen still missed values → Sofar time safe before seen' still' missed' values'
+moved time safe before seen seen' still still' missed missed' values values' a b c d s = subst (λ (l : List Activity). Sofar time safe before l still' missed' values') (sym a) (subst (λ (l : List Activity). Sofar time safe before seen l missed' values') (sym b)
+    (subst (λ n. Sofar time safe before seen still n values') (sym c) (subst (λ (l : List ℕ). Sofar time safe before seen still missed l) (sym d) s)))
 
 -- what a fate tells of the activity
 waits_only : (b s : Bool) → Waits ≡ cond b (cond s Missed Done) Waits → b ≡ false

@@ -1,5 +1,5 @@
 -- Activities that wait for their time, in the order in which they came.
-use Rattle.std.specs.Prelude.{◌≡◌, ℕ, zero, suc, ◌<◌, Bool, cond, List, [], ◌∷◌, ◌++◌, length, get_or, ◌==◌, slice_index_or, slice_set}
+use Rattle.std.specs.Prelude.{◌≡◌, ℕ, ◌<◌, Bool, cond, List, [], ◌∷◌, length, get_or, take, ◌==◌, slice_set}
 use Rattle.schedule.specs.declared.activity.Activity.{Activity}
 use Rattle.schedule.specs.declared.activity.Fate.{Fate}
 use Rattle.schedule.specs.declared.activity.Fate.TheVariants.{Waits, Missed, Done}
@@ -9,14 +9,9 @@ use Rattle.schedule.specs.declared.waiting.Schedule.{Schedule}
 abbrev pub no_activity : Activity
 no_activity = record { release = 0; place = 0; number = 0 }
 
--- the first n of a list
-abbrev pub first : ℕ → List Activity → List Activity
-first zero xs = []
-first (suc n) xs = first n xs ++ (slice_index_or xs n no_activity ∷ [])
-
 -- the activities that wait in a schedule of the code
 abbrev pub waiting : Schedule → List Activity
-waiting s = first s.count s.activities
+waiting s = take s.count s.activities
 
 -- those whose time it is, and those that wait on, both in their order
 abbrev pub due : ℕ → List Activity → List Activity

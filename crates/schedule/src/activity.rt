@@ -1,3 +1,6 @@
+ghost use Rattle.std.specs.Prelude.{◌≡◌};
+ghost use Rattle.schedule.specs.Numbers.{activity_numbers, activity_in};
+
 /// A number that is put at a place in the tick of its release.
 #[derive(Clone, Copy, PartialEq, Eq, Debug, Drop)]
 pub struct Activity {
@@ -12,4 +15,27 @@ pub enum Fate {
     Waits,
     Missed,
     Done,
+}
+
+/// The three numbers of an activity, in the order in which frames, texts and memory have them.
+impl From<Activity> for [u64; 3] {
+    ghost from_gives = { λ activity numbers. numbers ≡ activity_numbers activity };
+
+    fn from(activity: Activity) -> [u64; 3] {
+        [activity.release, activity.place, activity.number]
+    }
+}
+
+/// The activity that three numbers say.
+impl From<[u64; 3]> for Activity {
+    ghost from_gives = { λ numbers activity. activity ≡ activity_in numbers };
+
+    fn from(numbers: [u64; 3]) -> Activity {
+        let [release, place, number] = numbers;
+        Activity {
+            release,
+            place,
+            number,
+        }
+    }
 }

@@ -35,6 +35,13 @@ impl Schedule {
         }
     }
 
+    /// Those that wait.
+    pub fn waiting(&self) -> &[Activity]
+        ensures { result.now ≡ waiting self.now }
+    {
+        &self.activities[..self.count]
+    }
+
     /// How many wait.
     pub fn len(&self) -> usize
         ensures { result ≡ length (waiting self.now) }
@@ -54,12 +61,9 @@ impl Schedule {
         ensures none { result ≡ false → NoneDue time (waiting self.now) }
         ensures some { result ≡ true → SomeDue time (waiting self.now) }
     {
-        for k in 0..self.count {
-            if self.activities[k].release == time {
-                return true;
-            }
-        }
-        false
+        self.waiting()
+            .iter()
+            .any(|activity| activity.release == time)
     }
 
     /// One more activity waits, behind the others.
@@ -67,12 +71,18 @@ impl Schedule {
         requires { length (waiting self) < 32 }
         ensures { waiting result ≡ waiting self ++ (activity ∷ []) }
     {
-        let mut activities = self.activities;
-        activities[self.count] = activity;
-        Schedule {
-            activities,
-            count: self.count + 1,
-        }
+        let mut schedule = self;
+        schedule.push(activity);
+        schedule
+    }
+
+    // The same in place.
+    fn push(&mut self, activity: Activity)
+        requires { length (waiting self.old) < 32 }
+        ensures { waiting self.new ≡ waiting self.old ++ (activity ∷ []) }
+    {
+        self.activities[self.count] = activity;
+        self.count += 1;
     }
 
     /// The due activities put their numbers, one after the other, or are missed in safe mode; either way they are gone.
@@ -83,27 +93,19 @@ impl Schedule {
         ensures missed { result.missed ≡ cond safe_mode (length (due time (waiting self))) 0 }
         ensures few { result.missed ≤ 32 }
     {
-        let mut activities = self.activities;
-        let mut values = parameters.values;
-        let mut stays = 0;
+        let mut schedule = Schedule::empty();
+        let mut parameters = parameters;
         let mut missed = 0;
-        for k in 0..self.count {
-            let activity = activities[k];
-            match fate(activity, time, safe_mode) {
-                Fate::Waits => {
-                    activities[stays] = activity;
-                    stays += 1;
-                }
+        for activity in self.waiting() {
+            match fate(*activity, time, safe_mode) {
+                Fate::Waits => schedule.push(*activity),
                 Fate::Missed => missed += 1,
-                Fate::Done => values[activity.place as usize] = activity.number,
+                Fate::Done => parameters.values[activity.place as usize] = activity.number,
             }
         }
         Released {
-            schedule: Schedule {
-                activities,
-                count: stays,
-            },
-            parameters: Parameters { values },
+            schedule,
+            parameters,
             missed,
         }
     }

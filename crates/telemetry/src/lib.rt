@@ -25,11 +25,11 @@ pub struct Report {
     pub second: u64,
 }
 
-impl Report {
-    /// The report of a satellite.
-    pub fn of(satellite: &Satellite) -> Report
-        ensures { result ≡ report_of (model satellite.now) }
-    {
+/// The report of a satellite.
+impl From<&Satellite> for Report {
+    ghost from_gives = { λ satellite report. report ≡ report_of (model satellite.now) };
+
+    fn from(satellite: &Satellite) -> Report {
         Report {
             time: satellite.time,
             expected: satellite.expected,
@@ -41,8 +41,10 @@ impl Report {
             second: satellite.parameters.at(1),
         }
     }
+}
 
-    /// Its numbers, in the order in which they go down.
+impl Report {
+    /// Its numbers, in the order in which they go down. No `From`, which could not promise that they are read back.
     pub fn numbers(self) -> [u64; 8]
         ensures value { result ≡ numbers_of self }
         ensures back { reported result ≡ Some self }
@@ -60,21 +62,33 @@ impl Report {
     }
 
     /// The report that numbers say: nothing if they are not eight, or if its mark is neither 0 nor 1.
+    /// No `TryFrom`, whose error would say nothing more.
     pub fn read(numbers: &[u64]) -> Option<Report>
         ensures { result ≡ reported numbers.now }
     {
-        if numbers.len() != LENGTH || numbers[2] > 1 {
+        let numbers = <&[u64; LENGTH]>::try_from(numbers).ok()?;
+        let [
+            time,
+            expected,
+            mark,
+            rejected,
+            missed,
+            waiting,
+            first,
+            second,
+        ] = *numbers;
+        if mark > 1 {
             return None;
         }
         Some(Report {
-            time: numbers[0],
-            expected: numbers[1],
-            safe_mode: numbers[2] == 1,
-            rejected: numbers[3],
-            missed: numbers[4],
-            waiting: numbers[5],
-            first: numbers[6],
-            second: numbers[7],
+            time,
+            expected,
+            safe_mode: mark == 1,
+            rejected,
+            missed,
+            waiting,
+            first,
+            second,
         })
     }
 }

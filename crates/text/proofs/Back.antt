@@ -1,5 +1,5 @@
 -- What is written is read back.
-use Rattle.std.proofs.Common.{◌≡◌, ℕ, ◌^◌, ◌<◌, ◌≤◌, Bool, true, false, cond, ◌&&◌, ◌||◌, eqb, ltb, leb, List, [], ◌∷◌, ◌++◌, map, length, Some, None, decimal, refl, ap, ◌∙◌, arith, rules, lt-ltb, ne_eqb, leb-true}
+use Rattle.std.proofs.Common.{◌≡◌, not, ℕ, ◌^◌, ◌<◌, ◌≤◌, Bool, true, false, cond, ◌&&◌, ◌||◌, eqb, ltb, leb, List, [], ◌∷◌, ◌++◌, map, length, Some, None, decimal, refl, ap, ◌∙◌, arith, rules, lt-ltb, ne_eqb, leb-true}
 use Rattle.std.specs.Char.{is_ascii_digit}
 use Rattle.std.specs.List.{AllByRecursion as All}
 use Rattle.std.specs.Str.{all_ascii_digits}
@@ -14,8 +14,7 @@ use Rattle.text.specs.Cut.{stops, before, cut, grown}
 use Rattle.text.specs.Number.{onward, reads, number}
 use Rattle.text.specs.Render.{rendered}
 use Rattle.text.specs.Text.{spoken, Says}
-use Rattle.text.specs.Words.{worded, numbered, filled, spaced, line_words, lines, written, spelt}
-use Rattle.text.proofs.Numbers.{number_some}
+use Rattle.text.specs.Words.{Writable, worded, numbered, filled, spaced, line_words, lines, written, spelt}
 use Rattle.text.proofs.Telling.{spoken_some}
 
 -- numbers
@@ -42,6 +41,10 @@ reads_is n (c ∷ cs) e l =
     ap (λ v. cond (v && ltb (onward n c) (2 ^ 64)) (reads (onward n c) cs) None) t.0
     ∙ ap (λ v. cond v (reads (onward n c) cs) None) (lt-ltb (onward n c) (2 ^ 64) (omega (arith, grows (onward n c) cs)))
     ∙ reads_is (onward n c) cs t.1 l
+
+number_some : (xs : List ℕ) → 0 < length xs → number xs ≡ reads 0 xs
+number_some [] h = absurd (omega arith)
+number_some (x ∷ xs) h = refl
 
 number_back : (n : ℕ) → n < 2 ^ 64 → number (decimal n) ≡ Some n
 number_back n l =
@@ -73,22 +76,6 @@ cut_at p (x ∷ xs) ys s f e =
     ap (λ v. cond v ([] ∷ cut p (xs ++ (s ∷ ys))) (grown x (cut p (xs ++ (s ∷ ys))))) f.0 ∙ ap (grown x) (cut_at p xs ys s f.1 e)
 
 -- words
-
--- what can be written: a word that has a name, or a number below 2^64
-abbrev pub Writable : Word → Type 0
-Writable (Number n) = n < 2 ^ 64
-Writable Read = Unit {0}
-Writable Up = Unit {0}
-Writable Frame = Unit {0}
-Writable Hit = Unit {0}
-Writable Tick = Unit {0}
-Writable Put = Unit {0}
-Writable Later = Unit {0}
-Writable Forget = Unit {0}
-Writable Sleep = Unit {0}
-Writable Wake = Unit {0}
-Writable Rule = Unit {0}
-Writable Other = ⊥
 
 -- digits and letters
 abbrev High : List ℕ → Type 0
@@ -149,8 +136,7 @@ word_back Rule l = refl
 word_back Other l = absurd l
 
 filled_some : (xs : List ℕ) (ps : List (List ℕ)) → 0 < length xs → filled (xs ∷ ps) ≡ xs ∷ filled ps
-filled_some [] ps l = absurd (omega arith)
-filled_some (x ∷ xs) ps l = refl
+filled_some xs ps l = ap (λ v. cond (not v) (xs ∷ filled ps) (filled ps)) (ne_eqb (length xs) 0 (λ e. omega (arith, e, l)))
 
 -- lines
 

@@ -1,9 +1,7 @@
--- One event more, and whether it may be said.
+-- One thing more, and whether it may be said.
 use Rattle.std.proofs.Common.{◌≡◌, Bool, true, false, ◌&&◌, List, [], ◌∷◌, ◌++◌, sym, refl, ap, ◌∙◌}
 use Rattle.std.proofs.lemmas.Bool.{and_from, and_parts}
-use Rattle.frame.specs.declared.Command.{Command}
-use Rattle.text.specs.declared.event.Event.{Event}
-use Rattle.text.specs.Law.{after, heard_after, allowed, all_allowed, lawful, command_bounded, all_commandable}
+use Rattle.text.specs.Law.{all_said, after_all}
 
 and_assoc : (a b c : Bool) → ((a && b) && c) ≡ (a && (b && c))
 and_assoc true b c = refl
@@ -13,31 +11,18 @@ and_true : (a : Bool) → a ≡ (a && true)
 and_true true = refl
 and_true false = refl
 
-pub heard_push : (h : Bool) (es : List Event) (e : Event) → heard_after h (es ++ e ∷ []) ≡ after (heard_after h es) e
-heard_push h [] e = refl
-heard_push h (x ∷ es) e = heard_push (after h x) es e
+pub after_push : {E : Type 0} (after : Bool → E → Bool) (h : Bool) (es : List E) (e : E) → after_all after h (es ++ e ∷ []) ≡ after (after_all after h es) e
+after_push after h [] e = refl
+after_push after h (x ∷ es) e = after_push after (after h x) es e
 
-pub allowed_push : (h : Bool) (es : List Event) (e : Event) → all_allowed h (es ++ e ∷ []) ≡ (all_allowed h es && allowed (heard_after h es) e)
-allowed_push h [] e = sym (and_true (allowed h e))
-allowed_push h (x ∷ es) e = ap (λ v. allowed h x && v) (allowed_push (after h x) es e) ∙ sym (and_assoc (allowed h x) (all_allowed (after h x) es) (allowed (heard_after (after h x) es) e))
+pub said_push : {E : Type 0} (may after : Bool → E → Bool) (h : Bool) (es : List E) (e : E) → all_said may after h (es ++ e ∷ []) ≡ (all_said may after h es && may (after_all after h es) e)
+said_push may after h [] e = sym (and_true (may h e))
+said_push may after h (x ∷ es) e =
+    ap (λ v. may h x && v) (said_push may after (after h x) es e) ∙ sym (and_assoc (may h x) (all_said may after (after h x) es) (may (after_all after (after h x) es) e))
 
-module _ (es : List Event) (h : Bool) (right : lawful es ≡ true) (hears : h ≡ heard_after false es) where
-  pub one_lawful : (e : Event) → allowed h e ≡ true → lawful (es ++ e ∷ []) ≡ true
-  one_lawful e a = allowed_push false es e ∙ and_from (lawful es) (allowed (heard_after false es) e) right (ap (λ v. allowed v e) (sym hears) ∙ a)
+module _ {E : Type 0} (may after : Bool → E → Bool) (es : List E) (h : Bool) (right : all_said may after false es ≡ true) (hears : h ≡ after_all after false es) where
+  pub one_lawful : (e : E) → may h e ≡ true → all_said may after false (es ++ e ∷ []) ≡ true
+  one_lawful e a = said_push may after false es e ∙ and_from (all_said may after false es) (may (after_all after false es) e) right (ap (λ v. may v e) (sym hears) ∙ a)
 
-  pub one_heard : (e : Event) (now : List Event) → now ≡ es ++ e ∷ [] → after h e ≡ heard_after false now
-  one_heard e now p = ap (λ v. after v e) hears ∙ sym (heard_push false es e) ∙ ap (heard_after false) (sym p)
-
-  pub one_allowed : (e : Event) → lawful (es ++ e ∷ []) ≡ true → allowed h e ≡ true
-  one_allowed e a = ap (λ v. allowed v e) hears ∙ (and_parts (lawful es) (allowed (heard_after false es) e) (sym (allowed_push false es e) ∙ a)).1
-
--- the same of commands
-commandable_push : (cs : List Command) (c : Command) → all_commandable (cs ++ c ∷ []) ≡ (all_commandable cs && command_bounded c)
-commandable_push [] c = sym (and_true (command_bounded c))
-commandable_push (x ∷ cs) c = ap (λ v. command_bounded x && v) (commandable_push cs c) ∙ sym (and_assoc (command_bounded x) (all_commandable cs) (command_bounded c))
-
-pub one_commandable : (cs : List Command) (c : Command) → all_commandable cs ≡ true → command_bounded c ≡ true → all_commandable (cs ++ c ∷ []) ≡ true
-one_commandable cs c r b = commandable_push cs c ∙ and_from (all_commandable cs) (command_bounded c) r b
-
-pub one_bounded : (cs : List Command) (c : Command) → all_commandable (cs ++ c ∷ []) ≡ true → command_bounded c ≡ true
-one_bounded cs c a = (and_parts (all_commandable cs) (command_bounded c) (sym (commandable_push cs c) ∙ a)).1
+  pub one_may : (e : E) → all_said may after false (es ++ e ∷ []) ≡ true → may h e ≡ true
+  one_may e a = ap (λ v. may v e) hears ∙ (and_parts (all_said may after false es) (may (after_all after false es) e) (sym (said_push may after false es e) ∙ a)).1

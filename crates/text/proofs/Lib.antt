@@ -1,15 +1,8 @@
 pub mod Cutting
-pub mod Numbers
-pub mod Splitting
-pub mod Shapes
-pub mod Many
-pub mod Forming
 pub mod Telling
+pub mod Reading
 pub mod Lawfulness
 pub mod Undoing
 pub mod Writing
-pub mod Bounds
 pub mod Back
-pub mod Rendering
 pub mod Once
-pub mod Ruling

@@ -3,18 +3,19 @@ use Rattle.std.proofs.Common.{◌≡◌, ℕ, zero, suc, ◌+◌, ◌^◌, ◌<�
 use Rattle.std.specs.List.{AllByRecursion as All}
 use Rattle.std.proofs.lemmas.List.{take_at, take-map}
 use Rattle.std.proofs.lemmas.Bool.{and_parts, and_from, ltb-true}
+use Rattle.rules.specs.Numbers.{bit}
 use Rattle.frame.specs.declared.Command.{Command}
 use Rattle.text.specs.declared.words.Word.{Word}
 use Rattle.text.specs.declared.words.Word.TheVariants.{Number}
 use Rattle.text.specs.declared.event.Event.{Event}
 use Rattle.text.specs.declared.fault.Fault.{Fault}
 use Rattle.text.specs.declared.fault.Fault.TheVariants.{Unreadable, Memory}
-use Rattle.text.specs.Law.{command_bounded, bounded, all_below, after, allowed, all_allowed, lawful, all_commandable, kept_words}
+use Rattle.text.specs.Law.{command_bounded, bounded, all_below, all_said, kept_words}
 use Rattle.text.specs.Render.{rendered, Only}
-use Rattle.text.specs.Table.{mark, command_words, event_words}
-use Rattle.text.specs.Text.{spoken, Says, FirstFault, Told, Failed, Ordered, Disordered}
-use Rattle.text.specs.Words.{lines}
-use Rattle.text.proofs.Back.{Writable, says_back}
+use Rattle.text.specs.Table.{command_words, event_words}
+use Rattle.text.specs.Text.{spoken, Says, Language, Readable, flights, orders, Tells, Fails}
+use Rattle.text.specs.Words.{Writable, lines}
+use Rattle.text.proofs.Back.{says_back}
 use Rattle.text.proofs.Telling.{spoken_append, once}
 use Rattle.text.proofs.Undoing.{command_back, command_undo, command_some, event_back, event_undo, event_some}
 
@@ -24,16 +25,13 @@ some_said table ls k es s =
     let parts : spoken (take k ls) ++ spoken (drop k ls) ≡ map table es = sym (spoken_append (take k ls) (drop k ls)) ∙ ap spoken (take-append-drop k ls) ∙ s in
     sym (take_at (spoken (take k ls)) (spoken (drop k ls)) (length (spoken (take k ls))) refl) ∙ ap (take (length (spoken (take k ls)))) parts ∙ take-map table (length (spoken (take k ls))) es
 
-pub not_both : {E : Type 0} (table : E → List Word) (law : List E → Bool) → ((n : ℕ) (es : List E) → law es ≡ true → law (take n es) ≡ true) → (ls : List (List Word)) (n : ℕ) (es : List E) → Says table ls es → law es ≡ true → FirstFault E table law ls n → ⊥
-not_both table law closed ls n es s l f = f.silent _ (some_said table ls (n + 1) es s) (closed _ es l)
-
 -- what is lawful as a whole is so up to any place
-first_lawful : (h : Bool) (n : ℕ) (es : List Event) → all_allowed h es ≡ true → all_allowed h (take n es) ≡ true
-first_lawful h zero es l = refl
-first_lawful h (suc n) [] l = refl
-first_lawful h (suc n) (e ∷ es) l =
-    let t = and_parts (allowed h e) (all_allowed (after h e) es) l in
-    and_from (allowed h e) (all_allowed (after h e) (take n es)) t.0 (first_lawful (after h e) n es t.1)
+first_lawful : {E : Type 0} (may after : Bool → E → Bool) (h : Bool) (n : ℕ) (es : List E) → all_said may after h es ≡ true → all_said may after h (take n es) ≡ true
+first_lawful may after h zero es l = refl
+first_lawful may after h (suc n) [] l = refl
+first_lawful may after h (suc n) (e ∷ es) l =
+    let t = and_parts (may h e) (all_said may after (after h e) es) l in
+    and_from (may h e) (all_said may after (after h e) (take n es)) t.0 (first_lawful may after (after h e) n es t.1)
 
 -- what may be said can be written
 
@@ -47,7 +45,7 @@ all_writable n m (x ∷ xs) l = let t = and_parts (ltb x n) (all_below n xs) l i
 carried : (xs : List ℕ) → all_below 4294967296 xs ≡ true → All Writable (map Number xs)
 carried xs l = all_writable 4294967296 (omega arith) xs l
 
-mark_small : (b : Bool) → mark b < 2 ^ 64
+mark_small : (b : Bool) → bit b < 2 ^ 64
 mark_small true = omega arith
 mark_small false = omega arith
 
@@ -72,51 +70,34 @@ event_writable (Event.Hit c w v) l =
     (tt, (below c _ t.0 (omega arith), (below w _ u.0 (omega arith), (below v _ u.1 (omega arith), tt))))
 event_writable Event.Tick l = (tt, tt)
 
-events_writable : (h : Bool) (es : List Event) → all_allowed h es ≡ true → All (λ (e : Event). All Writable (event_words e)) es
-events_writable h [] l = tt
-events_writable h (e ∷ es) l =
-    let t = and_parts (allowed h e) (all_allowed (after h e) es) l in
-    (event_writable e (and_parts (bounded e) _ t.0).0, events_writable (after h e) es t.1)
+-- a text says one thing at most, and where it says something lawful no line of it is at fault
+module _ {E : Type 0} (l : Language E) where
+  pub told_faultless : (text : List ℕ) (es : List E) → Tells l text es → (f : Fault) → Fails l text f → f ≡ Memory
+  told_faultless text es t (Unreadable n x) q = absurd (q.0.silent _ (some_said l.words (lines text) (n + 1) es t.0) (first_lawful l.may l.after false _ es t.1))
+  told_faultless text es t Memory q = refl
 
-commands_writable : (cs : List Command) → all_commandable cs ≡ true → All (λ (c : Command). All Writable (command_words c)) cs
-commands_writable [] l = tt
-commands_writable (c ∷ cs) l = let t = and_parts (command_bounded c) (all_commandable cs) l in (command_writable c t.0, commands_writable cs t.1)
+  module _ (u : Readable l) where
+    pub told_once : (text : List ℕ) (es fs : List E) → Tells l text es → Tells l text fs → es ≡ fs
+    told_once text es fs p q = once l.words u.back u.undo (lines text) es fs p.0 q.0
 
-first_commandable : (n : ℕ) (cs : List Command) → all_commandable cs ≡ true → all_commandable (take n cs) ≡ true
-first_commandable zero cs l = refl
-first_commandable (suc n) [] l = refl
-first_commandable (suc n) (c ∷ cs) l =
-    let t = and_parts (command_bounded c) (all_commandable cs) l in
-    and_from (command_bounded c) (all_commandable (take n cs)) t.0 (first_commandable n cs t.1)
+    all_writable_from : (h : Bool) (es : List E) → all_said l.may l.after h es ≡ true → All (λ (e : E). All Writable (l.words e)) es
+    all_writable_from h [] p = tt
+    all_writable_from h (e ∷ es) p =
+        let t = and_parts (l.may h e) (all_said l.may l.after (l.after h e) es) p in
+        (u.writable h e t.0, all_writable_from (l.after h e) es t.1)
 
--- where a text says lawful events, no line of it is at fault, and it says nothing else
-pub told_faultless : (text : List ℕ) (es : List Event) → Told text es → (f : Fault) → Failed text f → f ≡ Memory
-told_faultless text es t (Unreadable n x) q = absurd (not_both event_words lawful (first_lawful false) _ n es t.0 t.1 q.0)
-told_faultless text es t Memory q = refl
+    -- the text of what is lawful is read as that
+    pub read_back : (es : List E) → all_said l.may l.after false es ≡ true → Only E (Tells l (rendered l.words es)) (Fails l (rendered l.words es)) es
+    read_back es p =
+        let t : Tells l (rendered l.words es) es = (says_back l.words u.some es (all_writable_from false es p), p) in
+        record {
+          told = t;
+          once = λ fs q. told_once (rendered l.words es) fs es q t;
+          faultless = told_faultless (rendered l.words es) es t;
+        }
 
-pub told_once : (text : List ℕ) (es fs : List Event) → Told text es → Told text fs → es ≡ fs
-told_once text es fs p q = once event_words event_back event_undo (lines text) es fs p.0 q.0
+pub event_readable : Readable flights
+event_readable = record { back = event_back; undo = event_undo; some = event_some; writable = λ h e a. event_writable e (and_parts (bounded e) _ a).0 }
 
--- the text of lawful events is read as them
-pub read_back : (es : List Event) → lawful es ≡ true → Only Event (Told (rendered event_words es)) (Failed (rendered event_words es)) es
-read_back es l =
-    let t : Told (rendered event_words es) es = (says_back event_words event_some es (events_writable false es l), l) in
-    record {
-      told = t;
-      once = λ fs q. told_once (rendered event_words es) fs es q t;
-      faultless = told_faultless (rendered event_words es) es t;
-    }
-
--- and so is that of commands
-pub orders_back : (cs : List Command) → all_commandable cs ≡ true → Only Command (Ordered (rendered command_words cs)) (Disordered (rendered command_words cs)) cs
-orders_back cs l =
-    let s = says_back command_words command_some cs (commands_writable cs l) in
-    record {
-      told = (s, l);
-      once = λ fs q. once command_words command_back command_undo (lines (rendered command_words cs)) fs cs q.0 s;
-      faultless = λ f q. no_fault f q s;
-    }
-  where
-    no_fault : (f : Fault) → Disordered (rendered command_words cs) f → Says command_words (lines (rendered command_words cs)) cs → f ≡ Memory
-    no_fault (Unreadable n x) q s = absurd (not_both command_words all_commandable first_commandable _ n cs s l q.0)
-    no_fault Memory q s = refl
+pub command_readable : Readable orders
+command_readable = record { back = command_back; undo = command_undo; some = command_some; writable = λ _ c a. command_writable c a }

@@ -1,32 +1,18 @@
 -- The lines of a text, one after the other.
-use Rattle.std.proofs.Common.{◌≡◌, ℕ, ◌+◌, ◌-◌, ◌<◌, ◌≤◌, Bool, true, List, [], ◌∷◌, ◌++◌, map, length, get_or, take, drop, sym, refl, ap, ◌∙◌, subst, append_assoc, append-nil, arith, length-append, length-drop, length-take}
+use Rattle.std.proofs.Common.{◌≡◌, ℕ, ◌+◌, Bool, true, false, List, [], ◌∷◌, ◌++◌, map, length, get_or, take, Some, None, Ok, Err, Option, Result, IsErrAnd, MatchResult, sym, refl, ap, ◌∙◌, subst, append_assoc, append-nil, arith, length-append}
 use mathlib.Core.List.{map-append}
 use Rattle.std.proofs.lemmas.List.{take_at, get_or_at, length_push, map_push, same_from_push}
+use Rattle.text.specs.declared.fault.Fault.{Fault}
+use Rattle.text.specs.declared.fault.Fault.TheVariants.{Unreadable, Memory}
 use Rattle.text.specs.declared.words.Word.{Word}
 use Rattle.text.specs.declared.cut.Stop.TheVariants.{Line}
-use Rattle.text.specs.Cut.{stops, further, First}
+use Rattle.text.specs.Cut.{stops, cut}
+use Rattle.text.specs.Law.{all_said, after_all}
+use Rattle.text.specs.declared.statement.Statements.{Statements}
+use Rattle.text.specs.Lines.{ReadsAt, rest, line, reads_next}
 use Rattle.text.specs.Words.{line_words, lines}
-use Rattle.text.specs.Text.{spoken, Says, FirstFault}
-use Rattle.text.proofs.Splitting.{further_none, further_some}
-
--- the first lines of the text say es, which is lawful, and rest is what is left of it
-pub record Sofar (E : Type 0) (table : E → List Word) (law : List E → Bool) (text rest : List ℕ) (line : ℕ) (es : List E) : Type 0 where
-  pub done : List (List Word)
-  pub cutting : lines text ≡ done ++ lines rest
-  pub long : length done ≡ line
-  pub says : Says table done es
-  pub lawful : law es ≡ true
-  pub room : line + length rest ≤ length text
-
--- one is the first line of rest, and more begins with its end, or is empty
-pub record Front (rest one more : List ℕ) : Type 0 where
-  pub n : ℕ
-  pub first : First (stops Line) rest n
-  pub front : one ≡ take n rest
-  pub back : more ≡ drop n rest
-
-pub start : {E : Type 0} (table : E → List Word) (law : List E → Bool) (text : List ℕ) → law [] ≡ true → Sofar E table law text text 0 []
-start table law text l = record { done = []; cutting = refl; long = refl; says = refl; lawful = l; room = omega arith }
+use Rattle.text.specs.Text.{spoken, Says, FirstFault, Language, Readable, Tells, Fails}
+use Rattle.text.proofs.Lawfulness.{after_push, one_lawful, one_may}
 
 pub spoken_append : (ls ms : List (List Word)) → spoken (ls ++ ms) ≡ spoken ls ++ spoken ms
 spoken_append [] ms = refl
@@ -39,19 +25,6 @@ spoken_some (w ∷ ws) ls n = refl
 
 says_more : {E : Type 0} (table : E → List Word) (done : List (List Word)) (l : List Word) (es fs : List E) → Says table done es → Says table (l ∷ []) fs → Says table (done ++ l ∷ []) (es ++ fs)
 says_more table done l es fs p q = spoken_append done (l ∷ []) ∙ (λ i. p i ++ q i) ∙ sym (map-append table es fs)
-
--- what one line adds to what the lines before it say
-pub record Adds (E : Type 0) (table : E → List Word) (law : List E → Bool) (l : List Word) (es now : List E) : Type 0 where
-  pub more : List E
-  pub says : Says table (l ∷ []) more
-  pub is : now ≡ es ++ more
-  pub lawful : law now ≡ true
-
-pub adds_nothing : {E : Type 0} (table : E → List Word) (law : List E → Bool) (l : List Word) (es now : List E) → l ≡ [] → law es ≡ true → now ≡ es → Adds E table law l es now
-adds_nothing table law l es now n k e = record { more = []; says = ap (λ (v : List Word). spoken (v ∷ [])) n; is = e ∙ sym (append-nil es); lawful = ap law e ∙ k }
-
-pub adds_one : {E : Type 0} (table : E → List Word) (law : List E → Bool) (l : List Word) (es now : List E) (e : E) → (table e ≡ [] → ⊥) → l ≡ table e → law (es ++ e ∷ []) ≡ true → now ≡ es ++ e ∷ [] → Adds E table law l es now
-adds_one table law l es now e n h k p = record { more = e ∷ []; says = ap (λ (v : List Word). spoken (v ∷ [])) h ∙ spoken_some (table e) [] n; is = p; lawful = ap law p ∙ k }
 
 -- a table that can be undone tells what it is a table of
 all_back : {E : Type 0} (table : E → List Word) (back : List Word → E) → ((e : E) → back (table e) ≡ e) → (es : List E) → map back (map table es) ≡ es
@@ -68,45 +41,96 @@ one_over table back undo done l es fs n p q =
     let e : fs ≡ es ++ back l ∷ [] = sym (all_back table back undo fs) ∙ ap (map back) (sym s) ∙ map_push back (map table es) l ∙ ap (λ x. x ++ back l ∷ []) (all_back table back undo es) in
     (e, (same_from_push _ _ l (table (back l)) (s ∙ ap (map table) e ∙ map_push table es (back l))).1)
 
-module _ {E : Type 0} (table : E → List Word) (law : List E → Bool) {text rest one more : List ℕ} {line : ℕ} {es : List E} (h : Sofar E table law text rest line es) (f : Front rest one more) where
-  split : lines rest ≡ line_words one ∷ map line_words (further (stops Line) more)
-  split = ap (map line_words) (f.first.pieces ∙ sym (λ i. f.front i ∷ further (stops Line) (f.back i)))
+module _ {E : Type 0} (l : Language E) where
+  -- the first lines of the text say es, which is lawful, and rest is what is left of it
+  pub record Sofar (text : List ℕ) (rest : List (List ℕ)) (line : ℕ) (heard : Bool) (es : List E) : Type 0 where
+    pub done : List (List Word)
+    pub cutting : lines text ≡ done ++ map line_words rest
+    pub long : length done ≡ line
+    pub says : Says l.words done es
+    pub lawful : all_said l.may l.after false es ≡ true
+    pub hears : heard ≡ after_all l.after false es
 
-  on : lines text ≡ (h.done ++ line_words one ∷ []) ++ map line_words (further (stops Line) more)
-  on = h.cutting ∙ ap (λ (l : List (List Word)). h.done ++ l) split ∙ sym (append_assoc h.done (line_words one ∷ []) (map line_words (further (stops Line) more)))
+  pub start : (text : List ℕ) (rest : List (List ℕ)) (line : ℕ) (heard : Bool) → rest ≡ cut (stops Line) text → line ≡ 0 → heard ≡ false → Sofar text rest line heard []
+  start text rest line heard c n h = record { done = []; cutting = ap (map line_words) (sym c); long = sym n; says = refl; lawful = refl; hears = h }
 
-  shorter : length more ≤ length rest
-  shorter = omega (arith, ap length f.back, length-drop f.n rest)
+  module _ {text : List ℕ} {rest : List (List ℕ)} {line : ℕ} {heard : Bool} {es : List E} (s : Sofar text rest line heard es) where
+    pub last : rest ≡ [] → Tells l text es
+    last e = (ap spoken (s.cutting ∙ ap (λ (bs : List (List ℕ)). s.done ++ map line_words bs) e ∙ append-nil s.done) ∙ s.says, s.lawful)
 
-  now_said : (now : List E) → Adds E table law (line_words one) es now → Says table (h.done ++ line_words one ∷ []) now
-  now_said now a = subst (Says table (h.done ++ line_words one ∷ [])) (sym a.is) (says_more table h.done (line_words one) es a.more h.says a.says)
+    module _ (bs : List ℕ) (more : List (List ℕ)) (e : rest ≡ bs ∷ more) where
+      on : lines text ≡ (s.done ++ line_words bs ∷ []) ++ map line_words more
+      on = s.cutting ∙ ap (λ (r : List (List ℕ)). s.done ++ map line_words r) e ∙ sym (append_assoc s.done (line_words bs ∷ []) (map line_words more))
 
-  pub next : (now : List E) → Adds E table law (line_words one) es now → 0 < length more → Sofar E table law text (take (length more - 1) (drop 1 more)) (line + 1) now
-  next now a l =
-      record {
-        done = h.done ++ line_words one ∷ [];
-        cutting = on ∙ ap (λ (ps : List (List ℕ)). (h.done ++ line_words one ∷ []) ++ map line_words ps) (further_some (stops Line) more l);
-        long = length_push h.done (line_words one) ∙ ap (λ (k : ℕ). k + 1) h.long;
-        says = now_said now a;
-        lawful = a.lawful;
-        room = omega (arith, h.room, shorter, length-take (length more - 1) (drop 1 more), length-drop 1 more);
+      pub next_silent : (n : ℕ) (h : Bool) → n ≡ line + 1 → h ≡ heard → line_words bs ≡ [] → Sofar text more n h es
+      next_silent n h m k w = record {
+        done = s.done ++ line_words bs ∷ [];
+        cutting = on;
+        long = length_push s.done (line_words bs) ∙ ap (λ (j : ℕ). j + 1) s.long ∙ sym m;
+        says = spoken_append s.done (line_words bs ∷ []) ∙ ap (λ (v : List Word). spoken s.done ++ spoken (v ∷ [])) w ∙ append-nil (spoken s.done) ∙ s.says;
+        lawful = s.lawful;
+        hears = k ∙ s.hears;
       }
 
-  pub last : (now : List E) → Adds E table law (line_words one) es now → length more ≡ 0 → Says table (lines text) now × (law now ≡ true)
-  last now a l =
-      (ap spoken (on ∙ ap (λ (ps : List (List ℕ)). (h.done ++ line_words one ∷ []) ++ map line_words ps) (further_none (stops Line) more l) ∙ append-nil (h.done ++ line_words one ∷ [])) ∙ now_said now a, a.lawful)
-
-  -- the line that comes next
-  pub here : get_or (lines text) line [] ≡ line_words one
-  here = ap (λ (ls : List (List Word)). get_or ls line []) (h.cutting ∙ ap (λ (l : List (List Word)). h.done ++ l) split) ∙ get_or_at h.done (line_words one) _ [] line h.long
-
-  pub stopped : (back : List Word → E) → ((e : E) → back (table e) ≡ e) → (line_words one ≡ [] → ⊥) → ((e : E) → law (es ++ e ∷ []) ≡ true → line_words one ≡ table e → ⊥) → FirstFault E table law (lines text) line
-  stopped back undo n never =
-      record {
-        within = omega (arith, ap length on, length-append (h.done ++ line_words one ∷ []) (map line_words (further (stops Line) more)), length_push h.done (line_words one), h.long);
-        before = (es, ap spoken (ap (take line) h.cutting ∙ take_at h.done (lines rest) line h.long) ∙ h.says, h.lawful);
-        silent = λ fs q k.
-            let e : take (line + 1) (lines text) ≡ h.done ++ line_words one ∷ [] = ap (take (line + 1)) on ∙ take_at (h.done ++ line_words one ∷ []) _ (line + 1) (length_push h.done (line_words one) ∙ ap (λ (k : ℕ). k + 1) h.long) in
-            let o = one_over table back undo h.done (line_words one) es fs n h.says (subst (λ (ls : List (List Word)). Says table ls fs) e q) in
-            never (back (line_words one)) (sym (ap law o.0) ∙ k) o.1;
+      pub next_said : Readable l → (n : ℕ) (h : Bool) (d : E) → n ≡ line + 1 → h ≡ l.after heard d → l.may heard d ≡ true → line_words bs ≡ l.words d → Sofar text more n h (es ++ d ∷ [])
+      next_said u n h d m k a w = record {
+        done = s.done ++ line_words bs ∷ [];
+        cutting = on;
+        long = length_push s.done (line_words bs) ∙ ap (λ (j : ℕ). j + 1) s.long ∙ sym m;
+        says = says_more l.words s.done (line_words bs) es (d ∷ []) s.says (ap (λ (v : List Word). spoken (v ∷ [])) w ∙ spoken_some (l.words d) [] (u.some d));
+        lawful = one_lawful l.may l.after es heard s.lawful s.hears d a;
+        hears = k ∙ ap (λ (v : Bool). l.after v d) s.hears ∙ sym (after_push l.after false es d);
       }
+
+      stopped : Readable l → (line_words bs ≡ [] → ⊥) → ((d : E) → l.may heard d ≡ true → line_words bs ≡ l.words d → ⊥) → FirstFault E l.words (all_said l.may l.after false) (lines text) line
+      stopped u n never =
+          record {
+            within = omega (arith, ap length on, length-append (s.done ++ line_words bs ∷ []) (map line_words more), length_push s.done (line_words bs), s.long);
+            before = (es, ap spoken (ap (take line) s.cutting ∙ take_at s.done (map line_words rest) line s.long) ∙ s.says, s.lawful);
+            silent = λ fs q k.
+                let c : take (line + 1) (lines text) ≡ s.done ++ line_words bs ∷ [] = ap (take (line + 1)) on ∙ take_at (s.done ++ line_words bs ∷ []) _ (line + 1) (length_push s.done (line_words bs) ∙ ap (λ (j : ℕ). j + 1) s.long) in
+                let o = one_over l.words u.back u.undo s.done (line_words bs) es fs n s.says (subst (λ (ls : List (List Word)). Says l.words ls fs) c q) in
+                never (u.back (line_words bs)) (one_may l.may l.after es heard s.lawful s.hears (u.back (line_words bs)) (sym (ap (all_said l.may l.after false) o.0) ∙ k)) o.1;
+          }
+
+      here : get_or (lines text) line [] ≡ line_words bs
+      here = ap (λ (ls : List (List Word)). get_or ls line []) (s.cutting ∙ ap (λ (r : List (List ℕ)). s.done ++ map line_words r) e) ∙ get_or_at s.done (line_words bs) _ [] line s.long
+
+      pub next_fails : Readable l → (f : Fault) → ReadsAt l line heard bs (Err f) → Fails l text f
+      next_fails u (Unreadable m x) r =
+          subst (λ k. Fails l text (Unreadable k x)) (sym r.0) (stopped u r.1.0 r.1.1.0, subst (λ ws. l.Expects ws x) (sym here) r.1.1.1)
+      next_fails u Memory r = tt
+
+-- the same of an iterator over the lines
+module _ {E : Type 0} (l : Language E) (u : Readable l) (text : List ℕ) where
+  abbrev pub Until : Statements E → List E → Type 0
+  Until s es = Sofar l text (rest s) (line s) s.heard es
+
+  module _ (s t : Statements E) (es : List E) (h : Until s es) where
+    fails_at : (f : Fault) → reads_next l s (Some (Err f)) t → Fails l text f
+    fails_at f (bs, e, m, r, k) = next_fails l h bs (rest t) e u f r
+
+    silent_at : reads_next l s (Some (Ok None)) t → Until t es
+    silent_at (bs, e, m, r, k) = next_silent l h bs (rest t) e (line t) t.heard m k r
+
+    said_at : (d : E) → reads_next l s (Some (Ok (Some d))) t → Until t (es ++ d ∷ [])
+    said_at d (bs, e, m, r, k) = next_said l h bs (rest t) e u (line t) t.heard d m k r.0 r.1
+
+    module _ (r : Result (Option E) Fault) (steps : reads_next l s (Some r) t) where
+      pub fails : (f : Fault) → r ≡ Err f → Fails l text f
+      fails f e = fails_at f (subst (λ x. reads_next l s (Some x) t) e steps)
+
+      pub silent : r ≡ Ok None → Until t es
+      silent e = silent_at (subst (λ x. reads_next l s (Some x) t) e steps)
+
+      pub said : (d : E) → r ≡ Ok (Some d) → Until t (es ++ d ∷ [])
+      said d e = said_at d (subst (λ x. reads_next l s (Some x) t) e steps)
+
+      pub reads : (o : Option E) → r ≡ Ok o → (now : List E) × Until t now
+      reads None e = (es, silent e)
+      reads (Some d) e = (es ++ d ∷ [], said d e)
+
+-- an error that `?` passes on
+pub passed_on : {V F : Type 0} (P : V → Type 0) (Q : F → Type 0) (r : Result V F) (f : F) → IsErrAnd r (λ y. y ≡ f) → Q f → MatchResult r P Q
+passed_on P Q (Ok v) f e q = absurd e
+passed_on P Q (Err y) f e q = subst Q (sym e) q

@@ -1,10 +1,13 @@
 -- The table of words can be undone: two events have the same words only where they are the same.
-use Rattle.std.proofs.Common.{◌≡◌, ℕ, Bool, true, false, eqb, List, [], ◌∷◌, map, get_or, drop, Some, None, Option, sym, refl, ap, ◌∙◌, arith}
+use Rattle.std.proofs.Common.{◌≡◌, ℕ, Bool, true, false, eqb, List, [], ◌∷◌, map, get_or, drop, Some, None, Option, MatchOption, sym, refl, ap, ◌∙◌, subst, arith}
+use Rattle.std.specs.Bool.{then_some}
+use Rattle.std.proofs.lemmas.Bool.{false≢true}
+use Rattle.rules.specs.Numbers.{bit}
 use Rattle.frame.specs.declared.Command.{Command}
 use Rattle.text.specs.declared.words.Word.{Word}
 use Rattle.text.specs.declared.words.Word.TheVariants.{Number, Read, Up, Frame, Hit, Tick, Put, Later, Forget, Sleep, Wake, Rule, Other}
 use Rattle.text.specs.declared.event.Event.{Event}
-use Rattle.text.specs.Table.{mark, command_words, event_words, amount}
+use Rattle.text.specs.Table.{command_words, event_words, amount, Found, Finds}
 
 or_zero : Option ℕ → ℕ
 or_zero None = 0
@@ -34,7 +37,7 @@ command_named Other ws = Command.Unknown (nth ws 1)
 pub command_back : List Word → Command
 command_back ws = command_named (get_or ws 0 Other) ws
 
-mark_back : (b : Bool) → eqb (mark b) 1 ≡ b
+mark_back : (b : Bool) → eqb (bit b) 1 ≡ b
 mark_back true = refl
 mark_back false = refl
 
@@ -79,11 +82,15 @@ event_undo (Event.Frame xs) = ap Event.Frame (all_num xs)
 event_undo (Event.Hit c w v) = refl
 event_undo Event.Tick = refl
 
-pub same_event : (ws : List Word) (d e : Event) → ws ≡ event_words d → ws ≡ event_words e → d ≡ e
-same_event ws d e p q = sym (event_undo d) ∙ ap event_back (sym p ∙ q) ∙ event_undo e
+-- what is found, and passes
+module _ {E : Type 0} (table : E → List Word) (passes : E → Bool) (back : List Word → E) (undo : (e : E) → back (table e) ≡ e) (ws : List Word) where
+  passed_by : (e : E) (v : Bool) → passes e ≡ v → ws ≡ table e → Finds table passes ws (then_some v e)
+  passed_by e true p w = (p, w)
+  passed_by e false p w = λ d b k. false≢true (sym p ∙ ap passes (sym (undo e) ∙ ap back (sym w ∙ k) ∙ undo d) ∙ b)
 
-pub same_command : (ws : List Word) (c d : Command) → ws ≡ command_words c → ws ≡ command_words d → c ≡ d
-same_command ws c d p q = sym (command_undo c) ∙ ap command_back (sym p ∙ q) ∙ command_undo d
+  pub finds : (o r : Option E) → Found table passes ws o → MatchOption o (r ≡ None) (λ e. r ≡ then_some (passes e) e) → Finds table passes ws r
+  finds None r f e = subst (Finds table passes ws) (sym e) f
+  finds (Some d) r f e = subst (Finds table passes ws) (sym e) (passed_by d (passes d) refl f)
 
 pub event_some : (e : Event) → event_words e ≡ [] → ⊥
 event_some (Event.Read i v) h = let z : ◌≡◌ {A = ℕ} 0 1 = cc in omega arith

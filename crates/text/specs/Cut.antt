@@ -1,5 +1,7 @@
 -- A list of bytes is cut at the bytes that pass a test.
-use Rattle.std.specs.Prelude.{◌≡◌, ℕ, ◌≤◌, Bool, cond, ◌||◌, List, [], ◌∷◌, length, take, drop, ◌==◌}
+use Rattle.std.specs.Prelude.{◌≡◌, ℕ, ◌≤◌, Bool, cond, ◌||◌, List, [], ◌∷◌, length, take, drop, ◌==◌, Some, None, Option}
+use denote.Ref.{Bor}
+use Rattle.text.specs.declared.cut.Pieces.{Pieces}
 use Rattle.text.specs.declared.cut.Stop.{Stop}
 use Rattle.text.specs.declared.cut.Stop.TheVariants.{Line, Comment, Blank}
 
@@ -34,3 +36,11 @@ pub record First (p : ℕ → Bool) (bs : List ℕ) (n : ℕ) : Type 0 where
   pub within : n ≤ length bs
   pub pieces : cut p bs ≡ take n bs ∷ further p (drop n bs)
   pub piece : before p bs ≡ take n bs
+
+-- the pieces that are left, of which there is one more as long as there is a rest
+abbrev pub cut_some : (ℕ → Bool) → Option (Bor (List ℕ)) → List (List ℕ)
+cut_some p None = []
+cut_some p (Some bs) = cut p bs.now
+
+abbrev pub left : Pieces → List (List ℕ)
+left s = cut_some (stops s.stop) s.rest

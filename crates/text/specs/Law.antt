@@ -1,5 +1,6 @@
 -- Which events a text may say: numbers in their bounds, and one frame in a tick.
 use Rattle.std.specs.Prelude.{ℕ, ◌^◌, Bool, true, false, not, ◌&&◌, List, [], ◌∷◌, length, ◌==◌, nat_lt}
+use Rattle.std.specs.List.{list_all}
 use Rattle.frame.specs.declared.Command.{Command}
 use Rattle.text.specs.declared.event.Event.{Event}
 
@@ -8,8 +9,7 @@ abbrev pub kept_words : ℕ
 kept_words = 294
 
 abbrev pub all_below : ℕ → List ℕ → Bool
-all_below n [] = true
-all_below n (x ∷ xs) = nat_lt x n && all_below n xs
+all_below n xs = list_all (λ x. nat_lt x n) xs
 
 -- what a frame can carry; an unknown command has no name to write
 abbrev pub command_bounded : Command → Bool
@@ -44,24 +44,28 @@ after heard (Event.Frame xs) = true
 after heard (Event.Hit c w v) = heard
 after heard Event.Tick = false
 
--- and after several
-abbrev pub heard_after : Bool → List Event → Bool
-heard_after heard [] = heard
-heard_after heard (e ∷ es) = heard_after (after heard e) es
-
 -- what may be said next
 abbrev pub allowed : Bool → Event → Bool
 allowed heard e = bounded e && not (heard && brings e)
 
-abbrev pub all_allowed : Bool → List Event → Bool
-all_allowed heard [] = true
-all_allowed heard (e ∷ es) = allowed heard e && all_allowed (after heard e) es
+-- things are said one after the other: each may be, by what the ones before it left
+abbrev pub all_said : {E : Type 0} → (Bool → E → Bool) → (Bool → E → Bool) → Bool → List E → Bool
+all_said may after heard [] = true
+all_said may after heard (e ∷ es) = may heard e && all_said may after (after heard e) es
+
+-- what they leave
+abbrev pub after_all : {E : Type 0} → (Bool → E → Bool) → Bool → List E → Bool
+after_all after heard [] = heard
+after_all after heard (e ∷ es) = after_all after (after heard e) es
+
+-- whether a frame has come up since the last tick, after several events
+abbrev pub heard_after : Bool → List Event → Bool
+heard_after heard es = after_all after heard es
 
 -- the events of a text, from its start
 abbrev pub lawful : List Event → Bool
-lawful es = all_allowed false es
+lawful es = all_said allowed after false es
 
--- the commands of a text
+-- the commands of a text, of which each may be said whatever the others are
 abbrev pub all_commandable : List Command → Bool
-all_commandable [] = true
-all_commandable (c ∷ cs) = command_bounded c && all_commandable cs
+all_commandable cs = all_said (λ _ c. command_bounded c) (λ heard _. heard) false cs

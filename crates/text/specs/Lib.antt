@@ -4,5 +4,6 @@ pub mod Words
 pub mod Law
 pub mod Table
 pub mod Text
+pub mod Lines
 pub mod Phrase
 pub mod Render

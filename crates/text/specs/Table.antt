@@ -1,15 +1,12 @@
 -- The words of each event: what is written, and all that is read.
-use Rattle.std.specs.Prelude.{◌≡◌, ℕ, Bool, true, cond, List, [], ◌∷◌, map, length, drop, Some, None, Option, ◌≢◌}
+use Rattle.std.specs.Prelude.{◌≡◌, ℕ, Bool, true, List, [], ◌∷◌, map, length, Some, None, Option, ◌≢◌}
 use Rattle.rules.specs.declared.rule.Rule as Rule
+use Rattle.rules.specs.Numbers.{rule_numbers}
 use Rattle.frame.specs.declared.Command.{Command}
 use Rattle.text.specs.declared.words.Word.{Word}
 use Rattle.text.specs.declared.words.Word.TheVariants.{Number, Read, Up, Frame, Hit, Tick, Put, Later, Forget, Sleep, Wake, Rule, Other}
 use Rattle.text.specs.declared.event.Event.{Event}
 use Rattle.text.specs.Law.{bounded, command_bounded}
-
--- a mark is said as 1 or 0
-abbrev pub mark : Bool → ℕ
-mark b = cond b 1 0
 
 -- an unknown command has no name
 abbrev pub command_words : Command → List Word
@@ -19,7 +16,7 @@ command_words Command.Forget = Forget ∷ []
 command_words Command.Sleep = Sleep ∷ []
 command_words Command.Wake = Wake ∷ []
 command_words (Command.SetRule k r) =
-    Rule ∷ Number k ∷ Number r.watches ∷ Number r.limit ∷ Number (mark r.upward) ∷ Number r.needs ∷ Number (mark r.safes) ∷ Number r.place ∷ Number r.number ∷ []
+    Rule ∷ Number k ∷ map Number (rule_numbers r)
 command_words (Command.Unknown k) = Other ∷ Number k ∷ []
 
 abbrev pub event_words : Event → List Word
@@ -29,14 +26,22 @@ event_words (Event.Frame xs) = Frame ∷ map Number xs
 event_words (Event.Hit c w v) = Hit ∷ Number c ∷ Number w ∷ Number v ∷ []
 event_words Event.Tick = Tick ∷ []
 
+-- what has these words; if there is none, nothing that passes has them
+abbrev pub Found : {E : Type 0} → (E → List Word) → (E → Bool) → List Word → Option E → Type 0
+Found {E} table passes ws None = (e : E) → passes e ≡ true → ws ≢ table e
+Found table passes ws (Some e) = ws ≡ table e
+
+-- and what is found passes
+abbrev pub Finds : {E : Type 0} → (E → List Word) → (E → Bool) → List Word → Option E → Type 0
+Finds {E} table passes ws None = (e : E) → passes e ≡ true → ws ≢ table e
+Finds table passes ws (Some e) = (passes e ≡ true) × (ws ≡ table e)
+
 -- what words are read as: the event that has them; if there is none, none that may be said has them
 abbrev pub Events : List Word → Option Event → Type 0
-Events ws None = (e : Event) → bounded e ≡ true → ws ≢ event_words e
-Events ws (Some e) = ws ≡ event_words e
+Events ws o = Found event_words bounded ws o
 
 abbrev pub Commands : List Word → Option Command → Type 0
-Commands ws None = (c : Command) → command_bounded c ≡ true → ws ≢ command_words c
-Commands ws (Some c) = ws ≡ command_words c
+Commands ws o = Found command_words command_bounded ws o
 
 abbrev pub amount : Word → Option ℕ
 amount (Number n) = Some n
@@ -53,10 +58,10 @@ amount Wake = None
 amount Rule = None
 amount Other = None
 
--- the words after `rule` are those of a rule
-abbrev pub RuleNumbers : List Word → Option Command → Type 0
-RuleNumbers ws None = (k : ℕ) (r : Rule.Rule) → ws ≢ drop 1 (command_words (Command.SetRule k r))
-RuleNumbers ws (Some c) = Rule ∷ ws ≡ command_words c
+-- the words are the numbers of a rule
+abbrev pub RuleNumbers : List Word → Option Rule.Rule → Type 0
+RuleNumbers ws None = (r : Rule.Rule) → ws ≢ map Number (rule_numbers r)
+RuleNumbers ws (Some r) = ws ≡ map Number (rule_numbers r)
 
 -- the words are n numbers
 abbrev pub Numbers : ℕ → List Word → Option (List ℕ) → Type 0

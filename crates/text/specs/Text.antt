@@ -1,5 +1,6 @@
 -- What a text says: the events in their order, or the first line at fault and what it should have been.
-use Rattle.std.specs.Prelude.{◌≡◌, ℕ, ◌+◌, ◌<◌, Bool, true, List, [], ◌∷◌, map, length, take, Some, None, Option, ◌≢◌, slice_index_or}
+use Rattle.std.specs.Prelude.{◌≡◌, ℕ, ◌+◌, ◌<◌, Bool, true, false, List, [], ◌∷◌, map, length, take, Some, None, Option, Ok, Err, Result, ◌≢◌, slice_index_or}
+use Rattle.std.specs.List.{AllByRecursion}
 use Rattle.frame.specs.declared.Command.{Command}
 use Rattle.text.specs.declared.words.Word.{Word}
 use Rattle.text.specs.declared.words.Word.TheVariants.{Number, Read, Up, Frame, Hit, Tick, Put, Later, Forget, Sleep, Wake, Rule, Other}
@@ -7,11 +8,11 @@ use Rattle.text.specs.declared.event.Event.{Event}
 use Rattle.text.specs.declared.fault.Expected.{Expected}
 use Rattle.text.specs.declared.fault.Fault.{Fault}
 use Rattle.text.specs.declared.fault.Fault.TheVariants.{Unreadable, Memory}
-use Rattle.text.specs.declared.fault.Reading.{Reading}
-use Rattle.text.specs.declared.fault.Reading.TheVariants.{Nothing, Said, Unread}
-use Rattle.text.specs.Words.{lines}
-use Rattle.text.specs.Table.{command_words, event_words}
-use Rattle.text.specs.Law.{bounded, allowed, lawful, command_bounded, all_commandable}
+use Rattle.text.specs.declared.fault.Unread.{Unread}
+use Rattle.text.specs.declared.fault.Unread.TheVariants as unread
+use Rattle.text.specs.Words.{lines, Writable}
+use Rattle.text.specs.Table.{command_words, event_words, Finds}
+use Rattle.text.specs.Law.{bounded, allowed, after, command_bounded, all_said}
 
 -- the lines that have words
 abbrev pub spoken : List (List Word) → List (List Word)
@@ -59,33 +60,67 @@ Expects ws x = (Sound ws → x ≡ Expected.TickFirst) × ((Sound ws → ⊥) �
 
 -- the event in its bounds that has these words
 abbrev pub Bounded : List Word → Option Event → Type 0
-Bounded ws None = Sound ws → ⊥
-Bounded ws (Some e) = (bounded e ≡ true) × (ws ≡ event_words e)
+Bounded ws o = Finds event_words bounded ws o
 
--- one line of a flight text, where a frame has been heard since the last tick or not
-abbrev pub Reads : Bool → List Word → Reading Event → Type 0
-Reads heard ws Nothing = ws ≡ []
-Reads heard ws (Said e) = (allowed heard e ≡ true) × (ws ≡ event_words e)
-Reads heard ws (Unread x) = (ws ≢ []) × ((e : Event) → allowed heard e ≡ true → ws ≢ event_words e) × Expects ws x
+-- what may be said in a text: the words of each thing, when it may be said, what it leaves for the lines after it, and what a line should have been that says none
+pub record Language (E : Type 0) : Type 1 where
+  pub words : E → List Word
+  pub may : Bool → E → Bool
+  pub after : Bool → E → Bool
+  pub Expects : List Word → Expected → Type 0
+
+abbrev pub flights : Language Event
+flights = record { words = event_words; may = allowed; after = after; Expects = Expects }
+
+abbrev pub orders : Language Command
+orders = record { words = command_words; may = λ _ c. command_bounded c; after = λ heard _. heard; Expects = λ _ x. x ≡ Expected.Command }
+
+-- what is written in a language can be read back: its words tell what a thing is, there is one at least, and they can be written
+pub record Readable {E : Type 0} (l : Language E) : Type 0 where
+  pub back : List Word → E
+  pub undo : (e : E) → back (l.words e) ≡ e
+  pub some : (e : E) → l.words e ≡ [] → ⊥
+  pub writable : (heard : Bool) (e : E) → l.may heard e ≡ true → AllByRecursion Writable (l.words e)
+
+module _ {E : Type 0} (l : Language E) where
+  -- nothing that may be said now has these words, and this is what they should have been
+  abbrev pub Unsaid : Bool → List Word → Expected → Type 0
+  Unsaid heard ws x = ((e : E) → l.may heard e ≡ true → ws ≢ l.words e) × l.Expects ws x
+
+  -- what may be said now and has these words
+  abbrev pub IsSaid : Bool → List Word → E → Type 0
+  IsSaid heard ws e = (l.may heard e ≡ true) × (ws ≡ l.words e)
+
+  -- one line: it has no words, or says something, or should have been something else
+  abbrev pub Reads : Bool → List Word → Result (Option E) Unread → Type 0
+  Reads heard ws (Ok None) = ws ≡ []
+  Reads heard ws (Ok (Some e)) = IsSaid heard ws e
+  Reads heard ws (Err (unread.Expected x)) = (ws ≢ []) × Unsaid heard ws x
+  Reads heard ws (Err unread.Memory) = Unit {0}
+
+  -- a text says these things, and they are lawful
+  abbrev pub Tells : List ℕ → List E → Type 0
+  Tells text es = Says l.words (lines text) es × (all_said l.may l.after false es ≡ true)
+
+  -- its first line at fault
+  abbrev pub Fails : List ℕ → Fault → Type 0
+  Fails text (Unreadable n x) = FirstFault E l.words (all_said l.may l.after false) (lines text) n × l.Expects (slice_index_or (lines text) n []) x
+  Fails text Memory = Unit {0}
+
+abbrev pub fault_at : ℕ → Unread → Fault
+fault_at n (unread.Expected x) = Unreadable n x
+fault_at n unread.Memory = Memory
 
 -- a text says these events, and they are lawful
 abbrev pub Told : List ℕ → List Event → Type 0
-Told text es = Says event_words (lines text) es × (lawful es ≡ true)
+Told text es = Tells flights text es
 
 abbrev pub Failed : List ℕ → Fault → Type 0
-Failed text (Unreadable n x) = FirstFault Event event_words lawful (lines text) n × Expects (slice_index_or (lines text) n []) x
-Failed text Memory = Unit {0}
-
--- one line of a text of commands
-abbrev pub Orders : List Word → Reading Command → Type 0
-Orders ws Nothing = ws ≡ []
-Orders ws (Said c) = (command_bounded c ≡ true) × (ws ≡ command_words c)
-Orders ws (Unread x) = (ws ≢ []) × ((c : Command) → command_bounded c ≡ true → ws ≢ command_words c) × (x ≡ Expected.Command)
+Failed text f = Fails flights text f
 
 -- a text says these commands, and they are lawful
 abbrev pub Ordered : List ℕ → List Command → Type 0
-Ordered text cs = Says command_words (lines text) cs × (all_commandable cs ≡ true)
+Ordered text cs = Tells orders text cs
 
 abbrev pub Disordered : List ℕ → Fault → Type 0
-Disordered text (Unreadable n x) = FirstFault Command command_words all_commandable (lines text) n × (x ≡ Expected.Command)
-Disordered text Memory = Unit {0}
+Disordered text f = Fails orders text f

@@ -1,5 +1,5 @@
 -- The words of a line, and how they are written.
-use Rattle.std.specs.Prelude.{ℕ, cond, List, [], ◌∷◌, ◌++◌, map, Some, None, codes, decimal, Option}
+use Rattle.std.specs.Prelude.{ℕ, ◌^◌, ◌<◌, cond, List, [], ◌∷◌, ◌++◌, map, filter, length, not, ◌==◌, Some, None, codes, decimal, Option}
 use Rattle.std.specs.Str.{bytes_eq}
 use Rattle.text.specs.declared.words.Word.{Word}
 use Rattle.text.specs.declared.words.Word.TheVariants.{Number, Read, Up, Frame, Hit, Tick, Put, Later, Forget, Sleep, Wake, Rule, Other}
@@ -30,9 +30,7 @@ worded bs = numbered (number bs) bs
 
 -- those that are not empty
 abbrev pub filled : List (List ℕ) → List (List ℕ)
-filled [] = []
-filled ([] ∷ ws) = filled ws
-filled ((b ∷ bs) ∷ ws) = (b ∷ bs) ∷ filled ws
+filled ws = filter (λ w. not (length w == 0)) ws
 
 -- the words between blanks
 abbrev pub spaced : List ℕ → List Word
@@ -65,3 +63,19 @@ abbrev pub spelt : List Word → List ℕ
 spelt [] = []
 spelt (w ∷ []) = written w
 spelt (w ∷ v ∷ ws) = written w ++ (32 ∷ spelt (v ∷ ws))
+
+-- what can be written so that it is read back: a word that has a name, or a number below 2^64
+abbrev pub Writable : Word → Type 0
+Writable (Number n) = n < 2 ^ 64
+Writable Read = Unit {0}
+Writable Up = Unit {0}
+Writable Frame = Unit {0}
+Writable Hit = Unit {0}
+Writable Tick = Unit {0}
+Writable Put = Unit {0}
+Writable Later = Unit {0}
+Writable Forget = Unit {0}
+Writable Sleep = Unit {0}
+Writable Wake = Unit {0}
+Writable Rule = Unit {0}
+Writable Other = ⊥

@@ -1,6 +1,5 @@
 //! The events of a flight, and the words that say them.
-ghost use Rattle.std.specs.Prelude.{◌≡◌};
-ghost use Rattle.text.specs.Table.{amount as amounts, Numbers, RuleNumbers, Commands, Events};
+ghost use Rattle.text.specs.Table.{Numbers, RuleNumbers, Commands, Events};
 
 use crate::words::Word;
 use frame::Command;
@@ -26,29 +25,24 @@ pub enum Event {
 pub fn event_of(words: &[Word]) -> Option<Event>
     ensures { Events words.now result }
 {
-    match words {
-        [Word::Read, Word::Number(i), Word::Number(v)] => Some(Event::Read {
-            instrument: *i,
-            value: *v,
-        }),
-        [Word::Up, Word::Number(n), rest @ ..] => match command_of(rest) {
-            Some(command) => Some(Event::Up {
-                number: *n,
-                command,
-            }),
-            None => None,
-        },
-        [Word::Frame, rest @ ..] => match numbers::<12>(rest) {
-            Some(numbers) => Some(Event::Frame { numbers }),
-            None => None,
-        },
-        [Word::Hit, Word::Number(c), Word::Number(w), Word::Number(v)] => {
-            Some(Event::Hit {
-                copy: *c,
-                word: *w,
-                value: *v,
-            })
+    match *words {
+        [Word::Read, Word::Number(instrument), Word::Number(value)] => {
+            Some(Event::Read { instrument, value })
         }
+        [Word::Up, Word::Number(number), ref rest @ ..] => {
+            let command = command_of(rest)?;
+            Some(Event::Up { number, command })
+        }
+        [Word::Frame, ref rest @ ..] => {
+            let numbers = numbers::<12>(rest)?;
+            Some(Event::Frame { numbers })
+        }
+        [
+            Word::Hit,
+            Word::Number(copy),
+            Word::Number(word),
+            Word::Number(value),
+        ] => Some(Event::Hit { copy, word, value }),
         [Word::Tick] => Some(Event::Tick),
         _ => None,
     }
@@ -58,54 +52,41 @@ pub fn event_of(words: &[Word]) -> Option<Event>
 pub fn command_of(words: &[Word]) -> Option<Command>
     ensures { Commands words.now result }
 {
-    match words {
-        [Word::Put, Word::Number(a), Word::Number(b)] => Some(Command::Put {
-            place: *a,
-            number: *b,
-        }),
+    match *words {
+        [Word::Put, Word::Number(place), Word::Number(number)] => {
+            Some(Command::Put { place, number })
+        }
         [
             Word::Later,
-            Word::Number(a),
-            Word::Number(b),
-            Word::Number(c),
-        ] => Some(Command::Later {
-            activity: Activity {
-                release: *a,
-                place: *b,
-                number: *c,
-            },
-        }),
+            Word::Number(release),
+            Word::Number(place),
+            Word::Number(number),
+        ] => {
+            let activity = Activity {
+                release,
+                place,
+                number,
+            };
+            Some(Command::Later { activity })
+        }
         [Word::Forget] => Some(Command::Forget),
         [Word::Sleep] => Some(Command::Sleep),
         [Word::Wake] => Some(Command::Wake),
-        [Word::Rule, rest @ ..] => rule_of(rest),
+        [Word::Rule, Word::Number(index), ref rest @ ..] => {
+            let rule = rule_of(rest)?;
+            Some(Command::SetRule { index, rule })
+        }
         _ => None,
     }
 }
 
-// The rule that eight numbers say, of which the fourth and the sixth are marks.
-fn rule_of(words: &[Word]) -> Option<Command>
+// The rule that seven numbers say, if it says the same: its marks are 1 or 0.
+fn rule_of(words: &[Word]) -> Option<Rule>
     ensures { RuleNumbers words.now result }
 {
-    let Some(said) = numbers::<8>(words) else {
-        return None;
-    };
-    if said[3] > 1 || said[5] > 1 {
-        return None;
-    }
-    let rule = Rule {
-        watches: said[1],
-        limit: said[2],
-        upward: said[3] == 1,
-        needs: said[4],
-        safes: said[5] == 1,
-        place: said[6],
-        number: said[7],
-    };
-    Some(Command::SetRule {
-        index: said[0],
-        rule,
-    })
+    let numbers = numbers::<7>(words)?;
+    let rule = Rule::from(numbers);
+    (<[u64; 7]>::from(rule) == numbers).then_some(rule)
 }
 
 /// So many numbers, and nothing else.
@@ -116,20 +97,8 @@ pub fn numbers<const N: usize>(words: &[Word]) -> Option<[u64; N]>
         return None;
     }
     let mut numbers = [0; N];
-    for i in 0..N {
-        let Some(n) = amount(words[i]) else {
-            return None;
-        };
-        numbers[i] = n;
+    for (i, word) in words.iter().enumerate() {
+        numbers[i] = word.amount()?;
     }
     Some(numbers)
-}
-
-fn amount(word: Word) -> Option<u64>
-    ensures { result ≡ amounts word }
-{
-    match word {
-        Word::Number(n) => Some(n),
-        _ => None,
-    }
 }

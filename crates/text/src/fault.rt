@@ -1,7 +1,9 @@
 //! Why a text is not read.
 ghost use Rattle.std.specs.Prelude.{◌≡◌, Some};
 ghost use Rattle.text.specs.declared.fault.Fault.TheVariants.{Memory};
+ghost use Rattle.text.specs.declared.fault.Unread.TheVariants as unread;
 ghost use Rattle.text.specs.Phrase.{phrase};
+ghost use Rattle.text.specs.Text.{fault_at};
 
 use crate::law::WORDS;
 use std::alloc::{AllocError, AllocFailed};
@@ -31,14 +33,41 @@ pub enum Fault {
     Memory,
 }
 
-/// What one line says.
-#[derive(Drop)]
-pub enum Reading<T> {
-    /// It has no words.
-    Nothing,
-    Said(T),
+/// Why a line is not read.
+#[derive(Clone, Copy, Debug, Drop)]
+pub enum Unread {
     /// It should have been something else.
-    Unread(Expected),
+    Expected(Expected),
+    /// There is no memory left.
+    Memory,
+}
+
+impl Unread {
+    /// The same of a text, of which it is this line.
+    pub fn at(self, line: usize) -> Fault
+        ensures { result ≡ fault_at line self }
+    {
+        match self {
+            Unread::Expected(expected) => Fault::Unreadable { line, expected },
+            Unread::Memory => Fault::Memory,
+        }
+    }
+}
+
+impl From<Expected> for Unread {
+    ghost from_gives = { λ x r. r ≡ unread.Expected x };
+
+    fn from(expected: Expected) -> Unread {
+        Unread::Expected(expected)
+    }
+}
+
+impl From<AllocError> for Unread {
+    ghost from_gives = { λ _ r. r ≡ unread.Memory };
+
+    fn from(_e: AllocError) -> Unread {
+        Unread::Memory
+    }
 }
 
 impl fmt::Display for Expected {

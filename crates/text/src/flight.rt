@@ -1,81 +1,44 @@
 //! Reads a flight text.
-ghost use Rattle.std.specs.Prelude.{◌≡◌, List, IfOk, MatchResult};
-ghost use Rattle.text.specs.Words.{line_words};
-ghost use Rattle.text.specs.Text.{wanted as wanting, Bounded, Reads, Told, Failed};
+ghost use Rattle.std.specs.Prelude.{◌≡◌, List, MatchResult};
+ghost use Rattle.text.specs.Text.{by_first, flights, Bounded, Told, Failed};
 
-use crate::cut::{Stop, piece_len};
 use crate::event::{Event, event_of};
-use crate::fault::{Expected, Fault, Reading};
+use crate::fault::{Expected, Fault};
 use crate::law::{bounded, brings, heard_after};
-use crate::words::{Word, words_of};
-use std::alloc::{AllocError, Global};
+use crate::statement::{Statement, Statements, parse_all};
+use crate::words::Word;
+use std::alloc::Global;
 
 /// The events of a text, in order; or its first line at fault, counted from 0, and what was expected there.
 pub fn parse(heap: Global, text: &[u8]) -> Result<Vec<Event>, Fault>
     ensures { MatchResult result (λ v. Told text.now v.items) (λ f. Failed text.now f) }
 {
-    let mut events = Vec::new(heap);
-    let mut heard = false;
-    let mut rest = text;
-    let mut line = 0;
-    loop {
-        let (one, more) = rest.split_at(piece_len(rest, Stop::Line));
-        match read_line(heap, one, heard)? {
-            Reading::Nothing => {}
-            Reading::Said(event) => {
-                events.push(event)?;
-                heard = heard_after(heard, event);
-            }
-            Reading::Unread(expected) => return Err(Fault::Unreadable { line, expected }),
-        }
-        if more.is_empty() {
-            return Ok(events);
-        }
-        rest = &more[1..];
-        line += 1;
-    }
+    parse_all(heap, text)
 }
 
 /// Reads a whole text and keeps nothing of it: whether it can be read, or its first line at fault.
 pub fn check(heap: Global, text: &[u8]) -> Result<(), Fault>
     ensures { MatchResult result (λ _. (es : List Event) × Told text.now es) (λ f. Failed text.now f) }
 {
-    let mut heard = false;
-    let mut rest = text;
-    let mut line = 0;
-    loop {
-        let (one, more) = rest.split_at(piece_len(rest, Stop::Line));
-        match read_line(heap, one, heard)? {
-            Reading::Nothing => {}
-            Reading::Said(event) => heard = heard_after(heard, event),
-            Reading::Unread(expected) => return Err(Fault::Unreadable { line, expected }),
-        }
-        if more.is_empty() {
-            return Ok(());
-        }
-        rest = &more[1..];
-        line += 1;
+    for read in Statements::<Event>::new(heap, text) {
+        let _ = read?;
     }
+    Ok(())
 }
 
-/// Reads a line, after a frame in this tick or not.
-pub fn read_line(heap: Global, line: &[u8], heard: bool) -> Result<Reading<Event>, AllocError>
-    ensures { IfOk result (λ v. Reads heard (line_words line.now) v) }
-{
-    let words = words_of(heap, line)?;
-    Ok(read_words(words.as_slice(), heard))
-}
+impl Statement for Event {
+    ghost language = { flights };
 
-fn read_words(words: &[Word], heard: bool) -> Reading<Event>
-    ensures { Reads heard words.now result }
-{
-    if words.is_empty() {
-        return Reading::Nothing;
+    fn of_words(words: &[Word], heard: bool) -> Result<Event, Expected> {
+        let event = bounded_event(words).ok_or(wanted(words))?;
+        if heard && brings(event) {
+            return Err(Expected::TickFirst);
+        }
+        Ok(event)
     }
-    match bounded_event(words) {
-        Some(event) if heard && brings(event) => Reading::Unread(Expected::TickFirst),
-        Some(event) => Reading::Said(event),
-        None => Reading::Unread(wanted(words[0])),
+
+    fn heard_after(self, heard: bool) -> bool {
+        heard_after(heard, self)
     }
 }
 
@@ -83,22 +46,19 @@ fn read_words(words: &[Word], heard: bool) -> Reading<Event>
 fn bounded_event(words: &[Word]) -> Option<Event>
     ensures { Bounded words.now result }
 {
-    match event_of(words) {
-        Some(event) if bounded(event) => Some(event),
-        _ => None,
-    }
+    event_of(words).filter(|event| bounded(*event))
 }
 
-// What a line with this first word should have been.
-fn wanted(first: Word) -> Expected
-    ensures { result ≡ wanting first }
+// What a line with these words should have been, by the first of them.
+fn wanted(words: &[Word]) -> Expected
+    ensures { result ≡ by_first words.now }
 {
-    match first {
-        Word::Read => Expected::Read,
-        Word::Up => Expected::Up,
-        Word::Frame => Expected::Frame,
-        Word::Hit => Expected::Hit,
-        Word::Tick => Expected::Tick,
+    match words {
+        [Word::Read, ..] => Expected::Read,
+        [Word::Up, ..] => Expected::Up,
+        [Word::Frame, ..] => Expected::Frame,
+        [Word::Hit, ..] => Expected::Hit,
+        [Word::Tick, ..] => Expected::Tick,
         _ => Expected::Event,
     }
 }

@@ -1,10 +1,11 @@
 //! Which events a text may say.
-ghost use Rattle.std.specs.Prelude.{◌≡◌, [], ◌∷◌};
+ghost use Rattle.std.specs.Prelude.{◌≡◌};
 ghost use Rattle.text.specs.Law.{all_below, bounded as bounds, command_bounded, brings as bringing, after};
 
 use crate::event::Event;
 use frame::Command;
 use rules::Rule;
+use schedule::Activity;
 
 /// How many words the satellite keeps: a hit strikes one of them.
 pub const WORDS: u64 = 294;
@@ -36,25 +37,36 @@ pub fn commandable(command: Command) -> bool
     ensures { result ≡ command_bounded command }
 {
     match command {
-        Command::Put { place, number } => place < CARRIED && number < CARRIED,
+        Command::Put { place, number } => carried(&[place, number]),
         Command::Later { activity } => {
-            activity.release < CARRIED && activity.place < CARRIED && activity.number < CARRIED
+            let Activity {
+                release,
+                place,
+                number,
+            } = activity;
+            carried(&[release, place, number])
         }
         Command::Forget | Command::Sleep | Command::Wake => true,
-        Command::SetRule { index, rule } => index < CARRIED && ruled(rule),
+        Command::SetRule { index, rule } => {
+            let Rule {
+                watches,
+                limit,
+                needs,
+                place,
+                number,
+                ..
+            } = rule;
+            carried(&[index, watches, limit, needs, place, number])
+        }
         Command::Unknown { .. } => false,
     }
 }
 
-// Whether the numbers of a rule lie in their bounds.
-fn ruled(rule: Rule) -> bool
-    ensures { result ≡ all_below 4294967296 (rule.watches ∷ rule.limit ∷ rule.needs ∷ rule.place ∷ rule.number ∷ []) }
+// Whether a frame can carry these numbers.
+fn carried(numbers: &[u64]) -> bool
+    ensures { result ≡ all_below 4294967296 numbers.now }
 {
-    rule.watches < CARRIED
-        && rule.limit < CARRIED
-        && rule.needs < CARRIED
-        && rule.place < CARRIED
-        && rule.number < CARRIED
+    numbers.iter().all(|n| *n < CARRIED)
 }
 
 /// Whether a frame comes up.

@@ -1,10 +1,10 @@
 //! The words of a line.
-ghost use Rattle.std.specs.Prelude.{◌≡◌, ◌+◌, ◌*◌, ◌^◌, ◌≤◌, IfOk, MatchOption};
-ghost use Rattle.std.specs.Str.{bytes_eq};
-ghost use Rattle.text.specs.Number.{number as reading};
+ghost use Rattle.std.specs.Prelude.{◌≡◌, [], ◌∷◌, IfOk};
+ghost use Rattle.text.specs.Number.{number as reading, reads};
+ghost use Rattle.text.specs.Table.{amount as amounts};
 ghost use Rattle.text.specs.Words.{named as naming, worded, spaced, line_words};
 
-use crate::cut::{Stop, piece_len};
+use crate::cut::{Pieces, Stop, piece_len};
 use std::alloc::{AllocError, Global};
 
 /// A word: a decimal number below 2^64, a name that some line uses, or any other.
@@ -25,30 +25,33 @@ pub enum Word {
     Other,
 }
 
+impl Word {
+    /// The number that it is.
+    pub fn amount(self) -> Option<u64>
+        ensures { result ≡ amounts self }
+    {
+        match self {
+            Word::Number(n) => Some(n),
+            _ => None,
+        }
+    }
+}
+
 /// The words of a line, without its comment.
 pub fn words_of(heap: Global, line: &[u8]) -> Result<Vec<Word>, AllocError>
     ensures { IfOk result (λ v. v.items ≡ line_words line.now) }
 {
-    let (said, _) = line.split_at(piece_len(line, Stop::Comment));
-    split(heap, said)
+    split(heap, &line[..piece_len(line, Stop::Comment)])
 }
 
 // The words between blanks.
 fn split(heap: Global, line: &[u8]) -> Result<Vec<Word>, AllocError>
     ensures { IfOk result (λ v. v.items ≡ spaced line.now) }
 {
-    let mut words = Vec::new(heap);
-    let mut rest = line;
-    loop {
-        let (piece, more) = rest.split_at(piece_len(rest, Stop::Blank));
-        if !piece.is_empty() {
-            words.push(word_of(piece))?;
-        }
-        if more.is_empty() {
-            return Ok(words);
-        }
-        rest = &more[1..];
-    }
+    Pieces::new(line, Stop::Blank)
+        .filter(|piece| !piece.is_empty())
+        .map(|piece| word_of(piece))
+        .collect(heap)
 }
 
 fn word_of(bytes: &[u8]) -> Word
@@ -67,62 +70,39 @@ fn number(word: &[u8]) -> Option<u64>
     if word.is_empty() {
         return None;
     }
-    let mut n: u64 = 0;
+    let mut n = 0;
     for b in word {
-        if !b.is_ascii_digit() {
-            return None;
-        }
-        let Some(more) = onward(n, u64::from(*b - b'0')) else {
-            return None;
-        };
-        n = more;
+        n = onward(n, *b)?;
     }
     Some(n)
 }
 
-// A number with one digit more, if it is below 2^64.
-fn onward(n: u64, digit: u64) -> Option<u64>
-    ensures { MatchOption result (2 ^ 64 ≤ n * 10 + digit) (λ m. m ≡ n * 10 + digit) }
+// A number with one digit more, if that is a digit and the number stays below 2^64.
+fn onward(n: u64, b: u8) -> Option<u64>
+    ensures { result ≡ reads n (b ∷ []) }
 {
-    if n > (u64::MAX - digit) / 10 {
+    if !b.is_ascii_digit() {
         return None;
     }
-    Some(n * 10 + digit)
+    n.checked_mul(10)?.checked_add(u64::from(b - b'0'))
 }
 
 // The name that a word spells.
 fn named(word: &[u8]) -> Word
     ensures { result ≡ naming word.now }
 {
-    if spells(word, b"read") {
-        Word::Read
-    } else if spells(word, b"up") {
-        Word::Up
-    } else if spells(word, b"frame") {
-        Word::Frame
-    } else if spells(word, b"hit") {
-        Word::Hit
-    } else if spells(word, b"tick") {
-        Word::Tick
-    } else if spells(word, b"put") {
-        Word::Put
-    } else if spells(word, b"later") {
-        Word::Later
-    } else if spells(word, b"forget") {
-        Word::Forget
-    } else if spells(word, b"sleep") {
-        Word::Sleep
-    } else if spells(word, b"wake") {
-        Word::Wake
-    } else if spells(word, b"rule") {
-        Word::Rule
-    } else {
-        Word::Other
+    match word {
+        b"read" => Word::Read,
+        b"up" => Word::Up,
+        b"frame" => Word::Frame,
+        b"hit" => Word::Hit,
+        b"tick" => Word::Tick,
+        b"put" => Word::Put,
+        b"later" => Word::Later,
+        b"forget" => Word::Forget,
+        b"sleep" => Word::Sleep,
+        b"wake" => Word::Wake,
+        b"rule" => Word::Rule,
+        _ => Word::Other,
     }
-}
-
-fn spells(word: &[u8], name: &[u8]) -> bool
-    ensures { result ≡ bytes_eq word.now name.now }
-{
-    word == name
 }

@@ -1,16 +1,16 @@
 //! Writes a flight text.
-ghost use Rattle.std.specs.Prelude.{◌≡◌, true, map, drop, IfOk, Some, string_bytes};
+ghost use Rattle.std.specs.Prelude.{◌≡◌, true, false, map, drop, IfOk, Some, string_bytes};
 ghost use Rattle.text.specs.declared.words.Word.TheVariants.{Number};
 ghost use Rattle.std.specs.Fmt.{WritesOnOk};
-ghost use Rattle.text.specs.Law.{lawful};
+ghost use Rattle.text.specs.Law.{lawful, all_said};
 ghost use Rattle.text.specs.Table.{command_words, event_words};
-ghost use Rattle.text.specs.Text.{Told, Failed};
+ghost use Rattle.text.specs.Text.{Readable, Tells, Fails, Told, Failed};
 ghost use Rattle.text.specs.Words.{spelt};
 ghost use Rattle.text.specs.Render.{listed, rendered, Only};
 
 use crate::event::Event;
+use crate::statement::Statement;
 use frame::Command;
-use rules::Rule;
 use schedule::Activity;
 use std::alloc::{AllocError, Global};
 use std::fmt;
@@ -20,11 +20,23 @@ pub fn render(heap: Global, events: &[Event]) -> Result<String, AllocError>
     ensures text { IfOk result (λ s. string_bytes s ≡ rendered event_words events.now) }
     ensures back { IfOk result (λ s. lawful events.now ≡ true → Only Event (Told (string_bytes s)) (Failed (string_bytes s)) events.now) }
 {
+    lines_of::<Event, Event>(heap, events)
+}
+
+/// What a text says, one to a line, each written by the line that is made of it.
+pub fn lines_of<S: Statement, L: From<S> + fmt::Display + Drop>(
+    heap: Global,
+    said: &[S],
+) -> Result<String, AllocError>
+    requires readable { Readable S.language }
+    requires written { (x : S) (line : L) → L.from_gives x line → L.output line ≡ Some (spelt (S.language.words x)) }
+    ensures text { IfOk result (λ s. string_bytes s ≡ rendered S.language.words said.now) }
+    ensures back { IfOk result (λ s. all_said S.language.may S.language.after false said.now ≡ true → Only S (Tells S.language (string_bytes s)) (Fails S.language (string_bytes s)) said.now) }
+{
     let mut out = String::new(heap);
-    for event in events {
-        let Ok(()) = writeln!(out, "{event}") else {
-            return Err(AllocError);
-        };
+    for one in said {
+        let line = L::from(*one);
+        writeln!(out, "{line}")?;
     }
     Ok(out)
 }
@@ -36,7 +48,7 @@ impl fmt::Display for Event {
         match self {
             Event::Read { instrument, value } => write!(f, "read {instrument} {value}"),
             Event::Up { number, command } => {
-                let order = Order(*command);
+                let order = Order::from(*command);
                 write!(f, "up {number} {order}")
             }
             Event::Frame { numbers } => {
@@ -52,6 +64,14 @@ impl fmt::Display for Event {
 /// A command as a text says it.
 #[derive(Clone, Copy, Drop)]
 pub struct Order(pub Command);
+
+impl From<Command> for Order {
+    ghost from_gives = { λ c r. r ≡ record { 0 = c } };
+
+    fn from(command: Command) -> Order {
+        Order(command)
+    }
+}
 
 impl fmt::Display for Order {
     ghost output = { λ o. Some (spelt (command_words o.0)) };
@@ -71,29 +91,13 @@ impl fmt::Display for Order {
             Command::Sleep => write!(f, "sleep"),
             Command::Wake => write!(f, "wake"),
             Command::SetRule { index, rule } => {
-                let numbers = rule_numbers(index, rule);
-                write!(f, "rule")?;
+                let numbers = <[u64; 7]>::from(rule);
+                write!(f, "rule {index}")?;
                 list(&numbers, f)
             }
             Command::Unknown { kind } => write!(f, "? {kind}"),
         }
     }
-}
-
-// The eight numbers of a rule, its marks as 1 or 0.
-fn rule_numbers(index: u64, rule: Rule) -> [u64; 8]
-    ensures { map Number result ≡ drop 1 (command_words (Command.SetRule index rule)) }
-{
-    [
-        index,
-        rule.watches,
-        rule.limit,
-        u64::from(rule.upward),
-        rule.needs,
-        u64::from(rule.safes),
-        rule.place,
-        rule.number,
-    ]
 }
 
 /// Writes each number after a space.

@@ -1,15 +1,13 @@
-use Rattle.std.proofs.Common.{sym, ◌∙◌, arith, below_more}
-use Rattle.layout.proofs.Sanity.{faultless_of}
+use Rattle.std.proofs.Common.{◌≡◌, true, false, rules, tests}
+use Rattle.std.proofs.lemmas.Iterator.{first_from_Range}
+use Rattle.layout.specs.Fault.{at_fault}
+use Rattle.layout.proofs.Sanity.{faultless_of, lowest_of}
 use Rattle.layout.proofs.checks.fault.Goals as goal
 
 pub returns-then-sane : goal.returns-then-sane
 returns-then-sane c = faultless_of c.args.words.now (c.sane.ensures c.if-sane.true)
 
-pub returns-then-at_fault : goal.returns-then-at_fault
-returns-then-at_fault c = (omega arith, sym c.at_fault.ensures ∙ c.if-at_fault.true, c.loop-k.invariant)
-
-pub loop-k-preserved : goal.loop-k-preserved
-loop-k-preserved c = below_more _ _ c.loop-k.invariant (sym c.at_fault.ensures ∙ c.if-at_fault.false)
-
 pub returns : goal.returns
-returns c = λ k h. c.loop-k.invariant k (omega arith)
+returns c =
+    lowest_of c.args.words.now c.find.result (first_from_Range _ _ _ c.find.result (λ k. at_fault c.args.words.now k ≡ true) (λ k. at_fault c.args.words.now k ≡ false) c.find.ensures.ran
+    (λ x q k. search (rules, tests)) (λ x q k. search (rules, tests)))

@@ -1,16 +1,21 @@
-use Rattle.std.proofs.Common.{◌∙◌, arith, length-set}
-use Rattle.std.proofs.lemmas.List.FromFn.{fill_by_all}
+use Rattle.std.proofs.Common.{◌≡◌, map, sym, ap, ◌∙◌, arith, rules}
+use Rattle.std.specs.List.{range_with_len}
+use Rattle.rules.specs.declared.rule.Watch.{Watch}
 use Rattle.rules.specs.Watching.{off}
-use Rattle.layout.specs.Map.{rule_at, rules_in}
-use Rattle.layout.proofs.Parts.{filled_more}
+use Rattle.rules.specs.Watches.{rule_of, count_of}
+use Rattle.layout.specs.Map.{watch_at, rules_in}
+use Rattle.layout.proofs.Parts.{part_of, made}
 use Rattle.layout.proofs.read.rules.Goals as goal
+use Rattle.layout.proofs.read.rules.Goals.{After-from_fn}
 
-pub loop-k-preserved : goal.loop-k-preserved
-loop-k-preserved c = (
-  length-set c.loop-k.rules c.loop-k.k c.rule.result ∙ c.loop-k.invariant.0,
-  filled_more (rule_at c.args.words.now) c.loop-k.rules c.loop-k.k c.rule.result off (omega arith) c.rule.ensures c.loop-k.invariant.1,
-)
+watches : (c : After-from_fn) → c.from_fn.result ≡ map (watch_at c.args.words.now) (range_with_len 0 16)
+watches c =
+    let none : Watch = record { rule = off; count = 0 } in
+    made _ (watch_at c.args.words.now) _ c.from_fn.result none 16 (λ k y q e. search rules) c.from_fn.ensures.items
 
-pub returns : goal.returns
+pub returns-clause-rules : goal.returns-clause-rules
 unfolding rules_in
-returns c = fill_by_all (rule_at c.args.words.now) c.loop-k.rules 16 off c.loop-k.invariant.0 (λ i h. c.loop-k.invariant.1 i (omega arith))
+returns-clause-rules c = ap (map rule_of) (watches (goal.at.returns-clause-rules c).After-from_fn)
+
+pub returns-clause-counts : goal.returns-clause-counts
+returns-clause-counts c = ap (map count_of) (watches (goal.at.returns-clause-counts c).After-from_fn) ∙ sym (part_of 278 16 c.args.words.now (omega arith))

@@ -1,9 +1,10 @@
-use Rattle.std.proofs.Common.{eqb, get_or}
-use Rattle.layout.specs.Map.{state_of}
+use Rattle.std.proofs.Common.{eqb, get_or, take, ap, ◌∙◌}
+use Rattle.std.proofs.lemmas.List.FromFn.{take-map-range_with_len}
+use Rattle.layout.specs.Map.{activity_at, schedule_in, state_of}
 use Rattle.layout.proofs.read.satellite.Goals as goal
 
 pub returns : goal.returns
-unfolding state_of
+unfolding state_of schedule_in
 returns c =
     let w = c.args.words.now in
     λ i. record {
@@ -13,7 +14,7 @@ returns c =
       rejected = get_or w 3 0;
       missed = get_or w 4 0;
       parameters = c.part.ensures i;
-      schedule = c.schedule.ensures i;
-      rules = c.rules.ensures i;
-      counts = c.part-2.ensures i;
+      schedule = (ap (take (get_or w 69 0)) c.activities.ensures ∙ take-map-range_with_len (activity_at w) 0 32 (get_or w 69 0) c.requires) i;
+      rules = c.rules.ensures.rules i;
+      counts = c.rules.ensures.counts i;
     }

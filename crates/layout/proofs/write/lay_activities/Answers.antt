@@ -1,9 +1,10 @@
-use Rattle.std.proofs.Common.{◌≡◌, ◌+◌, ◌*◌, ◌++◌, get_or, take, drop, sym, refl, ◌∙◌, arith, take-append-drop}
+use Rattle.std.proofs.Common.{◌≡◌, ◌+◌, ◌*◌, ◌++◌, get_or, length, take, drop, sym, refl, ap, ◌∙◌, arith, take-append-drop}
 use Rattle.std.specs.List.{flat_map}
-use Rattle.schedule.specs.Waiting.{no_activity, first}
-use Rattle.schedule.proofs.First.{length_first, first_more}
+use Rattle.std.proofs.lemmas.List.{take_more, take_all, length-take-le}
+use Rattle.schedule.specs.Waiting.{no_activity}
 use Rattle.layout.specs.Map.{activity_words}
 use Rattle.layout.proofs.Units.{laid_one}
+use Rattle.layout.proofs.Writing.{laid_as}
 use Rattle.layout.proofs.write.lay_activities.Goals as goal
 
 pub loop-k-init : goal.loop-k-init
@@ -11,14 +12,14 @@ loop-k-init c = sym (take-append-drop 70 c.args.words.now)
 
 pub loop-k-preserved : goal.loop-k-preserved
 loop-k-preserved c =
-    let a = c.args.schedule.activities in
-    laid_one 3 activity_words (λ x. refl) 70 c.loop-k.k c.args.words.now c.activity_words.result c.loop-k.words c.lay.new.words
-    (first c.loop-k.k a) (first (c.loop-k.k + 1) a) (get_or a c.loop-k.k no_activity) (length_first c.loop-k.k a) (first_more c.loop-k.k a)
-    c.activity_words.ensures (let h = c.args.schedule.few in omega arith) c.loop-k.invariant c.lay.ensures
+    let a = c.args.waiting.now in
+    laid_one 3 activity_words (λ x. refl) 70 c.loop-k.k c.args.words.now (activity_words (get_or a c.loop-k.k no_activity)) c.loop-k.words c.lay.new.words
+    (take c.loop-k.k a) (take (c.loop-k.k + 1) a) (get_or a c.loop-k.k no_activity) (length-take-le c.loop-k.k a (omega arith)) (take_more a c.loop-k.k no_activity (omega arith))
+    refl (omega arith) c.loop-k.invariant (laid_as (70 + 3 * c.loop-k.k) 3 _ _ _ (activity_words (get_or a c.loop-k.k no_activity)) c.from.ensures refl c.lay.ensures)
 
 pub returns : goal.returns
 returns c =
-    let a = c.args.schedule.activities in
-    let k : c.loop-k.k ≡ c.args.schedule.count = omega arith in
-    let n = k ∙ sym (length_first c.args.schedule.count a) in
-    c.loop-k.invariant ∙ (λ i. take 70 c.args.words.now ++ (flat_map activity_words (first (k i) a) ++ drop (70 + 3 * n i) c.args.words.now))
+    let a = c.args.waiting.now in
+    let k : c.loop-k.k ≡ length a = omega arith in
+    c.loop-k.invariant ∙ (λ i. take 70 c.args.words.now ++ (flat_map activity_words (take (k i) a) ++ drop (70 + 3 * k i) c.args.words.now))
+    ∙ ap (λ (x : _). take 70 c.args.words.now ++ (flat_map activity_words x ++ drop (70 + 3 * length a) c.args.words.now)) (take_all (length a) a (omega arith))

@@ -1,9 +1,11 @@
-use Rattle.std.proofs.Common.{◌≡◌, ◌+◌, ◌*◌, ◌++◌, get_or, take, drop, sym, refl, ap, ◌∙◌, arith, take-append-drop}
+use Rattle.std.proofs.Common.{◌≡◌, ◌+◌, ◌*◌, ◌++◌, get_or, length, map, take, drop, sym, refl, ap, ◌∙◌, arith, take-append-drop}
 use Rattle.std.specs.List.{flat_map}
-use Rattle.std.proofs.lemmas.List.{take_more, take_all, length-take-le}
+use Rattle.std.proofs.lemmas.List.{take_more, take_all, length-take-le, length-map, get_or-map}
 use Rattle.rules.specs.Watching.{off}
+use Rattle.rules.specs.Watches.{rule_of}
 use Rattle.layout.specs.Map.{rule_words}
 use Rattle.layout.proofs.Units.{laid_one}
+use Rattle.layout.proofs.Writing.{laid_as}
 use Rattle.layout.proofs.write.lay_rules.Goals as goal
 
 pub loop-k-init : goal.loop-k-init
@@ -11,14 +13,18 @@ loop-k-init c = sym (take-append-drop 166 c.args.words.now)
 
 pub loop-k-preserved : goal.loop-k-preserved
 loop-k-preserved c =
-    let r = c.args.rules in
-    laid_one 7 rule_words (λ x. refl) 166 c.loop-k.k c.args.words.now c.rule_words.result c.loop-k.words c.lay.new.words
-    (take c.loop-k.k r) (take (c.loop-k.k + 1) r) (get_or r c.loop-k.k off) (length-take-le c.loop-k.k r (omega arith)) (take_more r c.loop-k.k off (omega arith))
-    c.rule_words.ensures (omega arith) c.loop-k.invariant c.lay.ensures
+    let r = map rule_of c.args.watches.now in
+    let n : length r ≡ 16 = length-map c.args.watches.now rule_of ∙ c.told-watches in
+    let part : c.from.result ≡ rule_words (get_or r c.loop-k.k off) =
+    c.from.ensures ∙ ap rule_words (sym (get_or-map rule_of c.args.watches.now c.loop-k.k (record { rule = off; count = 0 }) off (omega arith))) in
+    laid_one 7 rule_words (λ x. refl) 166 c.loop-k.k c.args.words.now (rule_words (get_or r c.loop-k.k off)) c.loop-k.words c.lay.new.words
+    (take c.loop-k.k r) (take (c.loop-k.k + 1) r) (get_or r c.loop-k.k off) (length-take-le c.loop-k.k r (omega (arith, n))) (take_more r c.loop-k.k off (omega (arith, n)))
+    refl (omega arith) c.loop-k.invariant (laid_as (166 + 7 * c.loop-k.k) 7 _ _ _ (rule_words (get_or r c.loop-k.k off)) part refl c.lay.ensures)
 
 pub returns : goal.returns
 returns c =
-    let r = c.args.rules in
+    let r = map rule_of c.args.watches.now in
+    let n : length r ≡ 16 = length-map c.args.watches.now rule_of ∙ c.told-watches in
     let k : c.loop-k.k ≡ 16 = omega arith in
     c.loop-k.invariant ∙ (λ i. take 166 c.args.words.now ++ (flat_map rule_words (take (k i) r) ++ drop (166 + 7 * k i) c.args.words.now))
-    ∙ ap (λ (x : _). take 166 c.args.words.now ++ (flat_map rule_words x ++ drop 278 c.args.words.now)) (take_all 16 r (omega arith))
+    ∙ ap (λ (x : _). take 166 c.args.words.now ++ (flat_map rule_words x ++ drop 278 c.args.words.now)) (take_all 16 r (omega (arith, n)))

@@ -4,11 +4,6 @@ use Rattle.std.proofs.lemmas.List.Edits.{fill_by_more}
 use Rattle.memory.specs.Threefold.{voted, voted_words}
 use Rattle.memory.proofs.Copies.read.Goals as goal
 
-pub loop-k-preserved : goal.loop-k-preserved
-loop-k-preserved g c =
-    let f : ℕ → ℕ = voted g.row.N c.args.self.now.numbers.now in
-    λ i h. ap (λ x. get_or (set c.loop-k.words c.loop-k.k x) i 0) c.word.ensures ∙ fill_by_more f c.loop-k.words c.loop-k.k 0 (omega arith) c.loop-k.invariant i h
-
 pub returns : goal.returns
 unfolding voted_words
 returns g c =

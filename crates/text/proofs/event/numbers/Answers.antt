@@ -1,19 +1,15 @@
-use Rattle.std.proofs.Common.{sym, refl, arith, length-set}
-use lib.ListN.{length-replicate}
-use Rattle.text.proofs.Many.{wrong_length, one_more, not_number, all_numbers}
+use Rattle.std.proofs.Common.{◌≡◌, ℕ, ◌<◌, List, get_or, Some, None, sym, ap, ◌∙◌, subst, arith}
+use Rattle.std.proofs.lemmas.List.{get_or-map}
+use Rattle.text.specs.declared.words.Word.{Word}
+use Rattle.text.specs.declared.words.Word.TheVariants.{Number}
+use Rattle.text.specs.Table.{amount, Numbers}
 use Rattle.text.proofs.event.numbers.Goals as goal
 
-pub returns-then-words : goal.returns-then-words
-returns-then-words g c = wrong_length _ g.row.N c.if-words.true
+not_number : (ws : List Word) (n i : ℕ) (d : Word) → i < n → amount (get_or ws i d) ≡ None → Numbers n ws None
+not_number ws n i d l a xs long e =
+    let s : amount (get_or ws i d) ≡ Some (get_or xs i 0) = ap (λ (v : List Word). amount (get_or v i d)) e ∙ ap amount (get_or-map Number xs i 0 d (omega arith)) in
+    let z : ◌≡◌ {A = ℕ} 0 1 = cc in omega arith
 
-pub loop-i-preserved : goal.loop-i-preserved
-loop-i-preserved g c = (simp length-set c.loop-i.invariant.0, one_more c.args.words.now c.loop-i.numbers c.loop-i.i _ _ (omega arith) (omega arith) (sym c.in-Some.ensures) c.loop-i.invariant.1)
-
-pub returns-in_default : goal.returns-in_default
-returns-in_default g c = not_number _ g.row.N c.loop-i.i _ c.loop-i-test.true (sym c.in_default.ensures)
-
-pub returns : goal.returns
-returns g c = (c.loop-i.invariant.0, all_numbers c.args.words.now c.loop-i.numbers c.loop-i.i (omega arith) (omega arith) c.loop-i.invariant.1)
-
-pub loop-i-init : goal.loop-i-init
-loop-i-init g c = (length-replicate g.row.N 0, refl)
+pub returns-in_err-numbers : goal.returns-in_err-numbers
+returns-in_err-numbers g c =
+    subst (Numbers g.row.N c.args.words.now) (sym c.from_residual.ensures) (not_number c.args.words.now g.row.N c.loop-i.i _ (omega (arith, c.loop-i-test.true)) (sym c.in_err-numbers.ensures))

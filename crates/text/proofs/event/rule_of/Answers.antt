@@ -1,18 +1,7 @@
-use Rattle.std.proofs.Common.{arith}
-use Rattle.text.proofs.Ruling.{rule_said, no_eight, no_mark}
+use Rattle.std.proofs.Common.{sym, refl, subst}
+use Rattle.rules.specs.Numbers.{rule_numbers}
+use Rattle.text.specs.Table.{RuleNumbers}
 use Rattle.text.proofs.event.rule_of.Goals as goal
-use Rattle.text.proofs.event.rule_of.Goals.{then-said-gt1-via-then-said-gt1, then-said-gt1-via-else-said-gt1+then-said-gt1-2}
 
-pub returns-in_default : goal.returns-in_default
-returns-in_default c = no_eight c.args.words.now c.in_default.ensures
-
-pub returns-then-said-gt1 : goal.returns-then-said-gt1
-returns-then-said-gt1 c =
-    no_mark c.args.words.now c.in-Some.said c.in-Some.ensures.1
-    (λ a b. elim c.then-said-gt1.branch [
-      | then-said-gt1-via-then-said-gt1 w ↦ (let h = w.if-said-gt1.true in omega arith)
-      | then-said-gt1-via-else-said-gt1+then-said-gt1-2 w ↦ (let h = w.if-said-gt1-2.true in omega arith)
-    ])
-
-pub returns : goal.returns
-returns c = rule_said c.args.words.now c.in-Some.said c.in-Some.ensures.0 c.in-Some.ensures.1 (omega arith) (omega arith)
+pub returns-in_err-numbers : goal.returns-in_err-numbers
+returns-in_err-numbers c = subst (RuleNumbers c.args.words.now) (sym c.from_residual.ensures) (λ r e. c.in_err-numbers.ensures (rule_numbers r) refl e)

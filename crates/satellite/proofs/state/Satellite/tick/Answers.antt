@@ -13,18 +13,15 @@ freed c =
       | else-is_due v ↦ ap model v.satellite-is ∙ released_none (model c.watch-satellite.result) (c.is_due.ensures.none v.if-is_due.false)
     ]
 
-pub watch-satellite-requires : goal.watch-satellite-requires
-watch-satellite-requires c = watch_fit (record { readings = c.args.readings.now; frame = c.args.frame.now }) (model c.args.self) (model c.begin.result) c.begin.ensures c.requires.fit
-
 pub release-satellite-requires : goal.release-satellite-requires
 release-satellite-requires c =
-    let p = release_fit (record { readings = c.args.readings.now; frame = c.args.frame.now }) (model c.args.self) (model c.begin.result) (model c.watch-satellite.result) c.begin.ensures c.watch-satellite.ensures c.requires.fit in record { placed = p.0; low_missed = p.1 }
+    let p = release_fit (record { readings = c.args.readings.now; frame = c.args.frame.now }) (model c.args.self) (model c.begin.result) (model c.watch-satellite.result) c.begin.ensures c.watch-satellite.ensures c.requires in record { placed = p.0; low_missed = p.1 }
 
 pub obey-satellite-requires : goal.obey-satellite-requires
 obey-satellite-requires c =
     let f = freed (goal.at.obey-satellite-requires c).Joined-is_due in
     let p = obey_fit (record { readings = c.args.readings.now; frame = c.args.frame.now }) (model c.args.self) (model c.begin.result) (model c.watch-satellite.result) (model c.if-is_due.satellite)
-    c.begin.ensures c.watch-satellite.ensures f c.requires.fit in
+    c.begin.ensures c.watch-satellite.ensures f c.requires in
     record { low_expected = p.0; low_rejected = p.1 }
 
 pub returns-in_default : goal.returns-in_default

@@ -1,12 +1,14 @@
-use Rattle.std.proofs.lemmas.Bool.{true≢false}
-use Rattle.schedule.proofs.Releasing.{none_more, some_at}
+use Rattle.std.proofs.Common.{◌≡◌, eqb, sym, ◌∙◌, rules, tests}
+use Rattle.std.proofs.lemmas.Iterator.{YieldsList-from_slice}
+use Rattle.std.proofs.lemmas.Iterator.Search.{any_from_yields_List}
+use Rattle.std.specs.List.{list_any}
+use Rattle.schedule.specs.declared.activity.Activity.{Activity}
+use Rattle.schedule.specs.Waiting.{waiting}
+use Rattle.schedule.proofs.Releasing.{none_due}
 use Rattle.schedule.proofs.waiting.Schedule.is_due.Goals as goal
 
-pub returns-then-self-k : goal.returns-then-self-k
-returns-then-self-k c = record {
-  none = λ e. absurd (true≢false e);
-  some = λ e. some_at c.args.time c.args.self.now.count c.loop-k.k c.args.self.now.activities c.loop-k-test.true c.if-self-k.true;
-}
-
-pub loop-k-preserved : goal.loop-k-preserved
-loop-k-preserved c = none_more c.args.time c.loop-k.k c.args.self.now.activities c.loop-k.invariant c.if-self-k.false
+pub returns-clause-none : goal.returns-clause-none
+returns-clause-none c =
+    let any : c.any.result ≡ list_any (λ (a : Activity). eqb a.release c.args.time) (waiting c.args.self.now) =
+    any_from_yields_List (λ (a : Activity). eqb a.release c.args.time) _ _ c.any.result c.any.ensures.ran (YieldsList-from_slice _ (cc)) (λ x b q k. search (rules, tests)) in
+    λ e. none_due c.args.time (waiting c.args.self.now) (sym any ∙ e)

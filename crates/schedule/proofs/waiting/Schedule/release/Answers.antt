@@ -1,23 +1,23 @@
-use Rattle.std.proofs.Common.{◌<◌, get_or, arith}
-use Rattle.schedule.specs.Waiting.{no_activity}
-use Rattle.schedule.proofs.Releasing.{waits_on, missed_on, put_on, placed_at, moved, fate_waits, fate_missed, fate_done}
+use Rattle.std.proofs.Common.{◌≡◌, ℕ, ◌+◌, List, [], ◌∷◌, ◌++◌, get_or, take, refl, ap, ◌∙◌, subst, arith}
+use Rattle.std.proofs.lemmas.List.{take_more}
+use Rattle.schedule.specs.declared.activity.Activity.{Activity}
+use Rattle.schedule.specs.Waiting.{no_activity, waiting}
+use Rattle.schedule.proofs.Releasing.{waits_on, missing, putting, moved, fate_waits, fate_missed, fate_done}
 use Rattle.schedule.proofs.waiting.Schedule.release.Goals as goal
 use Rattle.schedule.proofs.waiting.Schedule.release.Goals.{in-Waits, in-Missed, in-Done}
 
-pub offset_bounds-values-activity : goal.offset_bounds-values-activity
-offset_bounds-values-activity c =
-    let p : (get_or c.loop-k.activities c.loop-k.k no_activity).place < 64 = placed_at _ _ _ _ c.args.self.count c.loop-k.k _ _ _ _ c.loop-k.invariant c.loop-k-test.true c.requires in omega arith
-
-pub bounds-values-activity : goal.bounds-values-activity
-bounds-values-activity c = placed_at _ _ _ _ c.args.self.count c.loop-k.k _ _ _ _ c.loop-k.invariant c.loop-k-test.true c.requires
-
-pub loop-k-preserved : goal.loop-k-preserved
-loop-k-preserved c =
+pub loop-activity-preserved : goal.loop-activity-preserved
+loop-activity-preserved c =
+    let k : ℕ = c.loop-activity.activity-index in
+    let ws : List Activity = c.waiting-activity-items.result.now in
+    let a : Activity = get_or ws k no_activity in
+    let more = subst (λ (l : List Activity). take (k + 1) l ≡ take k l ++ (a ∷ [])) c.waiting-activity-items.ensures (take_more ws k no_activity (omega arith)) in
+    let s = c.loop-activity.invariant in
     elim c.match-fate.branch [
-      | in-Waits w ↦ moved _ _ _ _ _ _ _ _ _ _ _ _ _ w.stays-is w.missed-is w.activities-is w.values-is
-          (waits_on _ _ _ _ c.loop-k.k _ _ c.loop-k.activities _ (let h = c.args.self.few in omega arith) c.loop-k.invariant (fate_waits (get_or c.loop-k.activities c.loop-k.k no_activity) c.args.time c.args.safe_mode w.in-Waits.ensures))
-      | in-Missed w ↦ let p = fate_missed (get_or c.loop-k.activities c.loop-k.k no_activity) c.args.time c.args.safe_mode w.in-Missed.ensures in
-          moved _ _ _ _ _ _ _ _ _ _ _ _ _ w.stays-is w.missed-is w.activities-is w.values-is (missed_on _ _ _ _ c.loop-k.k _ _ c.loop-k.activities _ p.1 c.loop-k.invariant p.0)
-      | in-Done w ↦ let p = fate_done (get_or c.loop-k.activities c.loop-k.k no_activity) c.args.time c.args.safe_mode w.in-Done.ensures in
-          moved _ _ _ _ _ _ _ _ _ _ _ _ _ w.stays-is w.missed-is w.activities-is w.values-is (put_on _ _ _ _ c.loop-k.k _ _ c.loop-k.activities _ p.1 c.loop-k.invariant p.0)
+      | in-Waits w ↦ moved _ _ _ _ _ _ _ _ _ _ _ more (ap waiting w.schedule-is ∙ w.push.ensures) w.missed-is (ap (λ p. p.values) w.parameters-is)
+          (waits_on _ _ _ _ _ _ _ _ a (fate_waits a c.args.time c.args.safe_mode w.in-Waits.ensures) refl s)
+      | in-Missed w ↦ let p = fate_missed a c.args.time c.args.safe_mode w.in-Missed.ensures in
+          moved _ _ _ _ _ _ _ _ _ _ _ more (ap waiting w.schedule-is) w.missed-is (ap (λ p. p.values) w.parameters-is) (missing _ _ _ _ _ _ _ a p.0 p.1 s)
+      | in-Done w ↦ let p = fate_done a c.args.time c.args.safe_mode w.in-Done.ensures in
+          moved _ _ _ _ _ _ _ _ _ _ _ more (ap waiting w.schedule-is) w.missed-is (ap (λ p. p.values) w.parameters-is) (putting _ _ _ _ _ _ _ a p.0 p.1 s)
     ]

@@ -1,7 +1,6 @@
-use Rattle.std.proofs.Common.{List, ◌∷◌, sym, ap, ◌∙◌}
+use Rattle.std.proofs.Common.{ℕ, List, ◌∷◌, ◌++◌, map, codes, sym, ap, ◌∙◌}
 use Rattle.frame.specs.declared.Command.{Command}
-use Rattle.text.specs.declared.words.Word.{Word}
-use Rattle.text.specs.declared.words.Word.TheVariants.{Rule}
+use Rattle.text.specs.declared.words.Word.TheVariants.{Number, Rule}
 use Rattle.text.specs.Table.{command_words}
 use Rattle.text.specs.Words.{spelt}
 use Rattle.text.proofs.Writing.{ok_is, put_more, put_is, spelt_listed}
@@ -10,6 +9,7 @@ use Rattle.text.proofs.write.OrderDisplay.fmt.Goals as goal
 pub returns-in_ok-write-in-SetRule-clause-writes : goal.returns-in_ok-write-in-SetRule-clause-writes
 returns-in_ok-write-in-SetRule-clause-writes g c = λ p k.
     let h = c.write-in-SetRule.ensures.writes p (ok_is _ _ c.in_ok-write-in-SetRule.was) in
-    put_is g.W.Write.write_str_gives _ _ _ _
-    (sym (ap (λ (x : Command). spelt (command_words x)) c.in-SetRule.is ∙ ap (λ (ws : List Word). spelt (Rule ∷ ws)) (sym c.rule_numbers-numbers.ensures) ∙ spelt_listed Rule c.rule_numbers-numbers.result))
-    (put_more g.W.Write.write_str_gives _ _ _ _ _ h (c.list.ensures h.plain k))
+    let n = c.in-SetRule.index in
+    let xs = c.from-numbers.result in
+    let eq = ap (λ (x : Command). spelt (command_words x)) c.in-SetRule.is ∙ ap (λ (l : List ℕ). spelt (Rule ∷ Number n ∷ map Number l)) (sym c.from-numbers.ensures) ∙ ap (λ (l : List ℕ). codes "rule " ++ l) (spelt_listed (Number n) xs) in
+    put_is g.W.Write.write_str_gives _ _ _ _ (sym eq) (put_more g.W.Write.write_str_gives _ _ _ _ _ h (c.list.ensures h.plain k))

@@ -1,7 +1,0 @@
-use Rattle.std.proofs.Common.{◌≡◌, ℕ, ◌<◌, length, get_or}
-use Rattle.rules.specs.Watching.{off}
-use Rattle.layout.specs.Map.{rule_at}
-use Rattle.layout.proofs.read.rules.Given as goal
-
-abbrev pub invariant-loop-k : goal.invariant-loop-k
-invariant-loop-k l = (length l.rules ≡ 16) × ((i : ℕ) → i < l.k → get_or l.rules i off ≡ rule_at l.words i)
