@@ -192,14 +192,16 @@ fn same_memory(memory: &[u64; 882], words: &[u64; 294]) -> Result<(), Difference
 
 // Each number is the story's, or the first one that is not.
 fn same<const N: usize>(flight: &[u64; N], story: &[u64; N]) -> Result<(), Parting> {
-    for (place, (flight, story)) in flight.iter().zip(story).enumerate() {
-        if flight != story {
-            return Err(Parting {
-                place,
-                flight: *flight,
-                story: *story,
-            });
-        }
+    match flight
+        .iter()
+        .zip(story)
+        .position(|(flight, story)| flight != story)
+    {
+        Some(place) => Err(Parting {
+            place,
+            flight: flight[place],
+            story: story[place],
+        }),
+        None => Ok(()),
     }
-    Ok(())
 }
