@@ -263,7 +263,7 @@ impl Story {
         can
     }
 
-    /// The satellite that words without a fault say.
+    /// The satellite that words without a fault say; no `From`, since other words say none.
     pub fn of(words: &[u64; 294]) -> Story {
         let [time, expected, safe_mode, rejected, missed, ..] = *words;
         let mut story = Story::at_launch();
