@@ -1,4 +1,5 @@
-//! The entries of `board` under their C names, as a static library that a board written in C links.
+//! The entries of `board` under their C names, as a static library that a board written in C links. A crate is a
+//! library or a static library, so the two calls stand here once more.
 
 #![tactic(auto)]
 

@@ -64,6 +64,7 @@ fn fly_text(rt: &HostRuntime, text: &[u8]) -> anyhow::Result<()> {
                 fault,
             };
             eprintln!(rt; "{misread}")?;
+            // Each program ends with its own words.
             match fault {
                 Fault::Unreadable { .. } => Err(anyhow!("the text cannot be read")),
                 Fault::Memory => Err(anyhow!("no memory left")),

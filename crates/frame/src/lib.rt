@@ -3,7 +3,7 @@
 #![tactic(auto)]
 
 ghost use Rattle.std.specs.Prelude.{◌≡◌, true, false, Some, MatchOption};
-ghost use Rattle.frame.specs.Frame.{all_small, check_of, is_whole, command_of, rule_of, decoded, body, encodable, encoded, encoding, is_kind};
+ghost use Rattle.frame.specs.Frame.{all_small, check_of, is_whole, command_of, decoded, body, encodable, encoded, encoding, is_kind};
 
 use rules::Rule;
 use schedule::Activity;
@@ -93,9 +93,8 @@ fn check(frame: &[u64; 12]) -> u64
     ensures { result ≡ check_of frame.now }
 {
     let mut sum = 0;
-    // The place is a factor, so it is counted.
-    for i in 0..11 {
-        sum += (i as u64 + 1) * frame[i];
+    for (i, x) in frame[..11].iter().enumerate() {
+        sum += (i as u64 + 1) * x;
     }
     sum % MODULUS
 }
@@ -104,31 +103,25 @@ fn check(frame: &[u64; 12]) -> u64
 fn command_in(frame: &[u64; 12]) -> Command
     ensures { result ≡ command_of frame.now }
 {
-    match frame[1] {
+    let [_, kind, a, b, c, d, e, f, g, h, _, _] = *frame;
+    match kind {
         0 => Command::Put {
-            place: frame[2],
-            number: frame[3],
+            place: a,
+            number: b,
         },
         1 => Command::Later {
-            activity: Activity::from([frame[2], frame[3], frame[4]]),
+            activity: Activity::from([a, b, c]),
         },
         2 => Command::Forget,
         3 => Command::Sleep,
         4 => Command::Wake,
+        // A mark is set by 1 and by nothing else.
         5 => Command::SetRule {
-            index: frame[2],
-            rule: rule_in(frame),
+            index: a,
+            rule: Rule::from([b, c, d, e, f, g, h]),
         },
         kind => Command::Unknown { kind },
     }
-}
-
-fn rule_in(frame: &[u64; 12]) -> Rule
-    ensures { result ≡ rule_of frame.now }
-{
-    Rule::from([
-        frame[3], frame[4], frame[5], frame[6], frame[7], frame[8], frame[9],
-    ])
 }
 
 // The frame without its check.

@@ -49,6 +49,7 @@ fn station_of(rt: &HostRuntime, text: &[u8]) -> anyhow::Result<Station> {
                 fault,
             };
             eprintln!(rt; "{misread}")?;
+            // Each program ends with its own words.
             match fault {
                 Fault::Unreadable { .. } => Err(anyhow!("the commands cannot be read")),
                 Fault::Memory => Err(anyhow!("no memory left")),

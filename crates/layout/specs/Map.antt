@@ -15,6 +15,8 @@ use Rattle.std.specs.List.{range_with_len, flat_map}
 use Rattle.schedule.specs.declared.activity.Activity.{Activity}
 use Rattle.rules.specs.declared.rule.Rule.{Rule}
 use Rattle.rules.specs.declared.rule.Watch.{Watch}
+use Rattle.schedule.specs.Numbers.{activity_numbers}
+use Rattle.rules.specs.Numbers.{rule_numbers}
 use Rattle.satellite.specs.State.{State}
 
 abbrev pub word_count : ℕ
@@ -28,10 +30,10 @@ abbrev pub head_words : State → List ℕ
 head_words s = s.time ∷ (s.expected ∷ (bit s.safe_mode ∷ (s.rejected ∷ (s.missed ∷ []))))
 
 abbrev pub activity_words : Activity → List ℕ
-activity_words a = a.release ∷ (a.place ∷ (a.number ∷ []))
+activity_words a = activity_numbers a
 
 abbrev pub rule_words : Rule → List ℕ
-rule_words r = r.watches ∷ (r.limit ∷ (bit r.upward ∷ (r.needs ∷ (bit r.safes ∷ (r.place ∷ (r.number ∷ []))))))
+rule_words r = rule_numbers r
 
 -- activities one after the other, and noughts for those that could still come
 abbrev pub schedule_words : List Activity → List ℕ

@@ -65,22 +65,16 @@ fn at_fault(words: &[u64; 294], k: usize) -> bool
     requires { k < 294 }
     ensures { result ≡ at_fault words.now k }
 {
-    if words[k] > LARGEST {
-        true
-    } else if k == WAITING {
-        words[k] > ROOM as u64
-    } else if k < ACTIVITIES {
-        false
-    } else if k < RULES {
-        activity_fault(words, k)
-    } else if k < COUNTS {
-        rule_fault(words, k)
-    } else {
-        false
-    }
+    words[k] > LARGEST
+        || match k {
+            WAITING => words[k] > ROOM as u64,
+            ACTIVITIES..RULES => activity_fault(words, k),
+            RULES..COUNTS => rule_fault(words, k),
+            _ => false,
+        }
 }
 
-// Of an activity that waits: its time is not after now, or its place may not be put.
+// A word is told by its place, since the answer is a place. Of an activity that waits: its time is not after now, or its place may not be put.
 fn activity_fault(words: &[u64; 294], k: usize) -> bool
     requires past { 70 ≤ k }
     requires inside { k < 166 }

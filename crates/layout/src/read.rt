@@ -14,7 +14,7 @@ use satellite::Satellite;
 use schedule::{Activity, Schedule};
 use std::array;
 
-/// The satellite that words say. No `From`, as `words` is none: this crate owns neither type.
+/// The satellite that words say. No `From`: this crate owns neither type.
 pub fn satellite(words: &[u64; 294]) -> Satellite
     requires { slice_index words.now 69 ≤ 32 }
     ensures { model result ≡ state_of words.now }

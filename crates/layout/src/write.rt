@@ -10,7 +10,7 @@ use satellite::Satellite;
 use schedule::Activity;
 use std::array;
 
-/// The words of a satellite.
+/// The words of a satellite. No `From`: this crate owns neither type.
 pub fn words(satellite: Satellite) -> [u64; 294]
     ensures { result ≡ words_of (model satellite) }
 {
@@ -34,31 +34,24 @@ pub fn words(satellite: Satellite) -> [u64; 294]
     words
 }
 
-// The loops that lay count places, since these say where a thing is written. To make arrays of the numbers of all
-// activities and all rules first, and to lay those, makes a tick take two thirds longer; and one loop for both would
-// take what numbers a thing has as an `Fn` over a const parameter, of which nothing is proved.
+// No generic loop for this and `lay_rules`: what numbers a thing has would be an `Fn` over a const parameter, of which
+// nothing is proved. And arrays of the numbers of all, made by `map` and laid at once, make a tick take two thirds longer.
 fn lay_activities(words: &mut [u64; 294], waiting: &[Activity])
     requires { length waiting.now ≤ 32 }
     ensures { words.new ≡ take 70 words.old ++ (flat_map activity_words waiting.now ++ drop (70 + 3 * length waiting.now) words.old) }
 {
-    for k in 0..waiting.len() {
-        lay(
-            words,
-            ACTIVITIES + ACTIVITY * k,
-            &<[u64; ACTIVITY]>::from(waiting[k]),
-        );
+    for (k, activity) in waiting.iter().enumerate() {
+        let numbers = <[u64; ACTIVITY]>::from(*activity);
+        lay(words, ACTIVITIES + ACTIVITY * k, &numbers);
     }
 }
 
 fn lay_rules(words: &mut [u64; 294], watches: &[Watch; 16])
     ensures { words.new ≡ take 166 words.old ++ (flat_map rule_words (map rule_of watches.now) ++ drop 278 words.old) }
 {
-    for k in 0..COUNT {
-        lay(
-            words,
-            RULES + RULE * k,
-            &<[u64; RULE]>::from(watches[k].rule),
-        );
+    for (k, watch) in watches.iter().enumerate() {
+        let numbers = <[u64; RULE]>::from(watch.rule);
+        lay(words, RULES + RULE * k, &numbers);
     }
 }
 

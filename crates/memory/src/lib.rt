@@ -45,9 +45,8 @@ impl<'a, const N: usize> Copies<'a, N> {
         requires { length words.old ≡ N }
         ensures { words.new ≡ voted_words N self.now.numbers.now }
     {
-        // A closure that borrows `self`, as for `from_fn`, gets no proof: a lifetime and a const in one type.
-        for k in 0..N {
-            words[k] = self.word(k);
+        for (k, word) in words.iter_mut().enumerate() {
+            *word = self.word(k);
         }
     }
 }

@@ -24,6 +24,7 @@ impl fmt::Display for Output {
     fn fmt<W: fmt::Write>(&self, f: &mut fmt::Formatter<W>) -> fmt::Result {
         match &self.0 {
             Ok(numbers) => {
+                // No pattern: one for the rest of an array behind a reference gets no proof.
                 let first = numbers[0];
                 write!(f, "{first}")?;
                 list(&numbers[1..], f)

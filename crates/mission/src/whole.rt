@@ -1,10 +1,11 @@
 ghost use Rattle.std.specs.Prelude.{◌≡◌, MatchResult, OnOk};
 ghost use Rattle.std.specs.Fmt.{IsPlainFormatter, WritesOnOk};
 ghost use Rattle.mission.specs.declared.whole.Failure.TheVariants.{Unread, Unwritten};
+ghost use Rattle.text.specs.declared.fault.Fault.TheVariants.{Memory};
 ghost use Rattle.mission.specs.Run.{Flown, Storied, Broke, Untouched, line_told};
 
 use crate::aloft::{Aloft, Output};
-use std::alloc::Global;
+use std::alloc::{AllocError, Global};
 use std::fmt;
 use text::{Event, Fault, Statements, check};
 
@@ -22,6 +23,14 @@ impl From<Fault> for Failure {
 
     fn from(fault: Fault) -> Failure {
         Failure::Unread(fault)
+    }
+}
+
+impl From<AllocError> for Failure {
+    ghost from_gives = { λ _ r. r ≡ Unread Memory };
+
+    fn from(_e: AllocError) -> Failure {
+        Failure::Unread(Fault::Memory)
     }
 }
 

@@ -5,7 +5,8 @@
 ghost use Rattle.std.specs.Prelude.{◌≡◌, ◌<◌, replicate, slice_index, slice_set};
 ghost use Rattle.parameters.specs.Places.{may_put, read_in};
 
-/// How many parameters there are, and how many of them are instruments.
+/// How many parameters there are, and how many of them are instruments. A place is a plain number, below 64 where it
+/// is used: frames, rules and memory carry any, and to refuse is theirs.
 pub const PLACES: usize = 64;
 
 pub const INSTRUMENTS: usize = 16;

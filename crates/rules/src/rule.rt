@@ -2,8 +2,8 @@ ghost use Rattle.std.specs.Prelude.{◌≡◌};
 ghost use Rattle.rules.specs.Numbers.{rule_numbers, rule_in};
 
 /// Watches a parameter: past its limit for so many ticks in a row, it acts once.
-/// Its two marks stand beside the numbers, and are no enums: memory and frames have all seven numbers of every rule,
-/// and one that puts to safe mode keeps its place and number too.
+/// Its marks are fields of their own and no enums: it has a limit whichever way it is past it, and one that puts to
+/// safe mode keeps its place and number, since memory, frames and texts have all seven numbers of every rule.
 #[derive(Clone, Copy, PartialEq, Eq, Debug, Drop)]
 pub struct Rule {
     /// The place of the parameter that it watches.

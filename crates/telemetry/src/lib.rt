@@ -44,7 +44,8 @@ impl From<&Satellite> for Report {
 }
 
 impl Report {
-    /// Its numbers, in the order in which they go down. No `From`, which could not promise that they are read back.
+    /// Its numbers, in the order in which they go down. No `From`, whose one relation would hide that they are read
+    /// back: that has a clause of its own.
     pub fn numbers(self) -> [u64; 8]
         ensures value { result ≡ numbers_of self }
         ensures back { reported result ≡ Some self }

@@ -1,6 +1,8 @@
 -- The words of each event: what is written, and all that is read.
 use Rattle.std.specs.Prelude.{◌≡◌, ℕ, Bool, true, List, [], ◌∷◌, map, length, Some, None, Option, ◌≢◌}
 use Rattle.rules.specs.declared.rule.Rule as Rule
+use Rattle.schedule.specs.declared.activity.Activity.{Activity}
+use Rattle.schedule.specs.Numbers.{activity_numbers}
 use Rattle.rules.specs.Numbers.{rule_numbers}
 use Rattle.frame.specs.declared.Command.{Command}
 use Rattle.text.specs.declared.words.Word.{Word}
@@ -11,7 +13,7 @@ use Rattle.text.specs.Law.{bounded, command_bounded}
 -- an unknown command has no name
 abbrev pub command_words : Command → List Word
 command_words (Command.Put a b) = Put ∷ Number a ∷ Number b ∷ []
-command_words (Command.Later a) = Later ∷ Number a.release ∷ Number a.place ∷ Number a.number ∷ []
+command_words (Command.Later a) = Later ∷ map Number (activity_numbers a)
 command_words Command.Forget = Forget ∷ []
 command_words Command.Sleep = Sleep ∷ []
 command_words Command.Wake = Wake ∷ []
@@ -57,6 +59,11 @@ amount Sleep = None
 amount Wake = None
 amount Rule = None
 amount Other = None
+
+-- the words after `later` are those of an activity
+abbrev pub ActivityNumbers : List Word → Option Activity → Type 0
+ActivityNumbers ws None = (a : Activity) → ws ≢ map Number (activity_numbers a)
+ActivityNumbers ws (Some a) = ws ≡ map Number (activity_numbers a)
 
 -- the words are the numbers of a rule
 abbrev pub RuleNumbers : List Word → Option Rule.Rule → Type 0

@@ -1,5 +1,5 @@
 //! The events of a flight, and the words that say them.
-ghost use Rattle.text.specs.Table.{Numbers, RuleNumbers, Commands, Events};
+ghost use Rattle.text.specs.Table.{Numbers, ActivityNumbers, RuleNumbers, Commands, Events};
 
 use crate::words::Word;
 use frame::Command;
@@ -56,17 +56,8 @@ pub fn command_of(words: &[Word]) -> Option<Command>
         [Word::Put, Word::Number(place), Word::Number(number)] => {
             Some(Command::Put { place, number })
         }
-        [
-            Word::Later,
-            Word::Number(release),
-            Word::Number(place),
-            Word::Number(number),
-        ] => {
-            let activity = Activity {
-                release,
-                place,
-                number,
-            };
+        [Word::Later, ref rest @ ..] => {
+            let activity = activity_of(rest)?;
             Some(Command::Later { activity })
         }
         [Word::Forget] => Some(Command::Forget),
@@ -78,6 +69,14 @@ pub fn command_of(words: &[Word]) -> Option<Command>
         }
         _ => None,
     }
+}
+
+// The activity that three numbers say.
+fn activity_of(words: &[Word]) -> Option<Activity>
+    ensures { ActivityNumbers words.now result }
+{
+    let numbers = numbers::<3>(words)?;
+    Some(Activity::from(numbers))
 }
 
 // The rule that seven numbers say, if it says the same: its marks are 1 or 0.

@@ -9,6 +9,10 @@ use crate::law::WORDS;
 use std::alloc::{AllocError, AllocFailed};
 use std::fmt;
 
+// What people are told that a command is.
+const COMMAND: &str =
+    "`put A B`, `later A B C`, `forget`, `sleep`, `wake` or `rule A B C D E F G H`, each number below 4294967296, D and F 0 or 1";
+
 /// What a line should have been.
 #[derive(Clone, Copy, Debug, Drop)]
 pub enum Expected {
@@ -77,20 +81,14 @@ impl fmt::Display for Expected {
         match self {
             Expected::Event => write!(f, "`read`, `up`, `frame`, `hit` or `tick`"),
             Expected::Read => write!(f, "`read I V`, I below 16 and V below 65536"),
-            Expected::Up => write!(
-                f,
-                "`up N` and `put A B`, `later A B C`, `forget`, `sleep`, `wake` or `rule A B C D E F G H`, each number below 4294967296, D and F 0 or 1"
-            ),
+            Expected::Up => write!(f, "`up N` and {COMMAND}"),
             Expected::Frame => write!(f, "`frame` and twelve numbers below 18446744073709551616"),
             Expected::Hit => write!(
                 f,
                 "`hit C W V`, C below 3, W below {WORDS} and V below 18446744073709551616"
             ),
             Expected::Tick => write!(f, "`tick` alone"),
-            Expected::Command => write!(
-                f,
-                "`put A B`, `later A B C`, `forget`, `sleep`, `wake` or `rule A B C D E F G H`, each number below 4294967296, D and F 0 or 1"
-            ),
+            Expected::Command => write!(f, "{COMMAND}"),
             Expected::TickFirst => write!(f, "`tick` before another frame comes up"),
         }
     }

@@ -5,7 +5,6 @@ ghost use Rattle.text.specs.Law.{all_below, bounded as bounds, command_bounded, 
 use crate::event::Event;
 use frame::Command;
 use rules::Rule;
-use schedule::Activity;
 
 /// How many words the satellite keeps: a hit strikes one of them.
 pub const WORDS: u64 = 294;
@@ -38,14 +37,7 @@ pub fn commandable(command: Command) -> bool
 {
     match command {
         Command::Put { place, number } => carried(&[place, number]),
-        Command::Later { activity } => {
-            let Activity {
-                release,
-                place,
-                number,
-            } = activity;
-            carried(&[release, place, number])
-        }
+        Command::Later { activity } => carried(&<[u64; 3]>::from(activity)),
         Command::Forget | Command::Sleep | Command::Wake => true,
         Command::SetRule { index, rule } => {
             let Rule {

@@ -11,7 +11,6 @@ ghost use Rattle.text.specs.Render.{listed, rendered, Only};
 use crate::event::Event;
 use crate::statement::Statement;
 use frame::Command;
-use schedule::Activity;
 use std::alloc::{AllocError, Global};
 use std::fmt;
 
@@ -80,12 +79,8 @@ impl fmt::Display for Order {
         match self.0 {
             Command::Put { place, number } => write!(f, "put {place} {number}"),
             Command::Later { activity } => {
-                let Activity {
-                    release,
-                    place,
-                    number,
-                } = activity;
-                write!(f, "later {release} {place} {number}")
+                write!(f, "later")?;
+                list(&<[u64; 3]>::from(activity), f)
             }
             Command::Forget => write!(f, "forget"),
             Command::Sleep => write!(f, "sleep"),

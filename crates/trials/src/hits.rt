@@ -82,15 +82,15 @@ fn inputs(flight: &Flight) -> Inputs {
 
 /// The numbers that a hit makes of a word: each bit turned, its neighbours, and some of their own.
 pub fn numbers(kept: u64) -> [u64; 72] {
-    array::from_fn(|k| match k {
-        0..=63 => kept ^ (1 << k),
-        64 => 0,
-        65 => 1,
-        66 => kept.wrapping_add(1),
-        67 => kept.wrapping_sub(1),
-        68 => 33,
-        69 => LARGEST,
-        70 => LARGEST + 1,
-        _ => u64::MAX,
-    })
+    let own = [
+        0,
+        1,
+        kept.wrapping_add(1),
+        kept.wrapping_sub(1),
+        33,
+        LARGEST,
+        LARGEST + 1,
+        u64::MAX,
+    ];
+    array::from_fn(|k| if k < 64 { kept ^ (1 << k) } else { own[k % 8] })
 }

@@ -40,7 +40,7 @@ struct Frames {
     damaged: Wrapping<u64>,
 }
 
-// What a flight is commanded mostly, and how far ahead.
+// What a flight is commanded mostly, and how far ahead. A kind is a number here and in `order`: a frame may have any.
 #[derive(Clone, Copy)]
 struct Plan {
     kind: u64,

@@ -20,8 +20,8 @@ enum Letter {
     Hit(usize),
     // A command with the number that is expected.
     Command(Order),
-    // The same of a `later`: how many ticks ahead, the place and the number.
-    Later(u64, u64, u64),
+    // The same of a `later`, so many ticks ahead.
+    Later { ahead: u64, place: u64, number: u64 },
     // Frames that are not heeded: too early, doubled, damaged, and with a number that is too large.
     TooEarly,
     Doubled,
@@ -41,12 +41,32 @@ const ALPHABET: [Letter; 33] = [
     // an instrument, and past the last place: rejected
     Letter::Command([0, 15, 1, 0, 0, 0, 0, 0, 0, 0]),
     Letter::Command([0, 64, 1, 0, 0, 0, 0, 0, 0, 0]),
-    Letter::Later(1, 16, 5),
-    Letter::Later(2, 63, 6),
+    Letter::Later {
+        ahead: 1,
+        place: 16,
+        number: 5,
+    },
+    Letter::Later {
+        ahead: 2,
+        place: 63,
+        number: 6,
+    },
     // now, for an instrument, and past the last place: rejected
-    Letter::Later(0, 16, 1),
-    Letter::Later(1, 15, 1),
-    Letter::Later(1, 64, 1),
+    Letter::Later {
+        ahead: 0,
+        place: 16,
+        number: 1,
+    },
+    Letter::Later {
+        ahead: 1,
+        place: 15,
+        number: 1,
+    },
+    Letter::Later {
+        ahead: 1,
+        place: 64,
+        number: 1,
+    },
     Letter::Command([2, 0, 0, 0, 0, 0, 0, 0, 0, 0]),
     Letter::Command([3, 0, 0, 0, 0, 0, 0, 0, 0, 0]),
     Letter::Command(WAKE),
@@ -132,7 +152,11 @@ impl Letter {
         Some(match self {
             Letter::Reading(_) | Letter::Hit(_) => return None,
             Letter::Command(order) => framed(expected, order),
-            Letter::Later(ahead, place, number) => {
+            Letter::Later {
+                ahead,
+                place,
+                number,
+            } => {
                 let release = story.time.wrapping_add(1).wrapping_add(ahead);
                 framed(expected, [1, release, place, number, 0, 0, 0, 0, 0, 0])
             }

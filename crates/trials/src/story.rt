@@ -11,7 +11,8 @@ struct Waiting {
     number: u64,
 }
 
-/// A rule, and for how many ticks in a row it has been past its limit.
+/// A rule, with its marks beside its numbers as frames and memory have them, and for how many ticks in a row it has
+/// been past its limit.
 #[derive(Clone, Copy, Default)]
 pub struct Watch {
     watches: u64,
@@ -325,6 +326,7 @@ impl Story {
         words
     }
 
+    // No generic one for this and `write_watches`: it would name the size, the type and the iterator of two lines.
     fn write_activities(&self, words: &mut [u64; 294]) {
         let (places, _) = words[70..166].as_chunks_mut();
         for (place, activity) in places.iter_mut().zip(self.activities.iter().flatten()) {

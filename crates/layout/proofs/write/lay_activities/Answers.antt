@@ -14,4 +14,4 @@ loop-k-preserved c =
     let a = c.args.waiting.now in
     laid_one 3 activity_words (λ x. refl) 70 c.loop-k.k c.args.words.now (activity_words (get_or a c.loop-k.k no_activity)) c.loop-k.words c.lay.new.words
     (take c.loop-k.k a) (take (c.loop-k.k + 1) a) (get_or a c.loop-k.k no_activity) (length-take-le c.loop-k.k a (omega arith)) (take_more a c.loop-k.k no_activity (omega arith))
-    refl (omega arith) c.loop-k.invariant (laid_as (70 + 3 * c.loop-k.k) 3 _ _ _ (activity_words (get_or a c.loop-k.k no_activity)) c.from.ensures refl c.lay.ensures)
+    refl (omega arith) c.loop-k.invariant (laid_as (70 + 3 * c.loop-k.k) 3 _ _ _ (activity_words (get_or a c.loop-k.k no_activity)) c.from-numbers.ensures refl c.lay.ensures)

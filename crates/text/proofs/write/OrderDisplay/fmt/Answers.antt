@@ -12,4 +12,4 @@ returns-in_ok-write-in-SetRule-clause-writes g c = λ p k.
     let n = c.in-SetRule.index in
     let xs = c.from-numbers.result in
     let eq = ap (λ (x : Command). spelt (command_words x)) c.in-SetRule.is ∙ ap (λ (l : List ℕ). spelt (Rule ∷ Number n ∷ map Number l)) (sym c.from-numbers.ensures) ∙ ap (λ (l : List ℕ). codes "rule " ++ l) (spelt_listed (Number n) xs) in
-    put_is g.W.Write.write_str_gives _ _ _ _ (sym eq) (put_more g.W.Write.write_str_gives _ _ _ _ _ h (c.list.ensures h.plain k))
+    put_is g.W.Write.write_str_gives _ _ _ _ (sym eq) (put_more g.W.Write.write_str_gives _ _ _ _ _ h (c.list-in-SetRule.ensures h.plain k))
