@@ -11,8 +11,7 @@ use crate::map::{
 use parameters::Parameters;
 use rules::{Rule, Rules, Watch};
 use satellite::Satellite;
-use schedule::{Activity, Schedule};
-use std::array;
+use schedule::{Activity, NO_ACTIVITY, ROOM, Schedule};
 
 /// The satellite that words say. No `From`: this crate owns neither type.
 pub fn satellite(words: &[u64; 294]) -> Satellite
@@ -40,12 +39,11 @@ pub fn satellite(words: &[u64; 294]) -> Satellite
 fn activities(words: &[u64; 294]) -> [Activity; 32]
     ensures { result ≡ map (activity_at words.now) (range_with_len 0 32) }
 {
-    array::from_fn(
-        |k|
-            requires { k < 32 }
-            ensures { result ≡ activity_at words.exit.now k }
-        { activity(words, k) },
-    )
+    let mut activities = [NO_ACTIVITY; ROOM];
+    for (k, room) in activities.iter_mut().enumerate() {
+        *room = activity(words, k);
+    }
+    activities
 }
 
 pub(crate) fn activity(words: &[u64; 294], k: usize) -> Activity
@@ -59,14 +57,11 @@ fn rules(words: &[u64; 294]) -> Rules
     ensures rules { rules_of result ≡ rules_in words.now }
     ensures counts { counts_of result ≡ take 16 (drop 278 words.now) }
 {
-    Rules {
-        watches: array::from_fn(
-            |k|
-                requires { k < 16 }
-                ensures { result ≡ watch_at words.exit.now k }
-            { watch(words, k) },
-        ),
+    let mut rules = Rules::at_launch();
+    for (k, room) in rules.watches.iter_mut().enumerate() {
+        *room = watch(words, k);
     }
+    rules
 }
 
 pub(crate) fn watch(words: &[u64; 294], k: usize) -> Watch

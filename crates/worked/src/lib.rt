@@ -58,7 +58,7 @@ impl Craft {
     }
 }
 
-/// The frame of a command; noughts where no frame can carry it.
+/// The frame of a command; noughts where no frame can carry it, which no test asks for.
 pub fn framed(number: u64, command: Command) -> [u64; 12] {
     encode(Telecommand { number, command }).unwrap_or([0; 12])
 }
