@@ -6,14 +6,14 @@ use anyhow::anyhow;
 use mission::{Failure, fly_lines};
 use std::fmt::Formatter;
 use std::io::{BufWriter, Read, Stdout, Write};
-use std::{env, fmt};
-use text::{Fault, Misread, read_file};
+use std::{env, fmt, fs, io};
+use text::{Fault, Misread};
 
 fn main(rt: HostRuntime) -> anyhow::Result<()> {
     match env::args(&rt)?.nth(1) {
         None => fly_text(&rt, &standard_input(&rt)?),
         Some(word) if word.as_str() == "--help" => help(&rt),
-        Some(path) => fly_text(&rt, &read_file(&rt, "fly", path.as_str())?),
+        Some(path) => fly_text(&rt, &read_file(&rt, path.as_str())?),
     }
 }
 
@@ -26,6 +26,15 @@ fn help(rt: &HostRuntime) -> anyhow::Result<()> {
     println!(rt; "Lines: read I V, up N COMMAND, frame and twelve numbers, hit C W V, tick.")?;
     println!(rt; "Commands: put A B, later A B C, forget, sleep, wake, rule A B C D E F G H.")?;
     Ok(())
+}
+
+// Each program has this: no clause can say what a file gives, so it is no function of a library.
+fn read_file(rt: &HostRuntime, path: &str) -> io::Result<Vec<u8>> {
+    let text = fs::read(rt, path);
+    if let Err(error) = &text {
+        eprintln!(rt; "fly: {path}: {error}")?;
+    }
+    text
 }
 
 fn standard_input(rt: &HostRuntime) -> anyhow::Result<Vec<u8>> {

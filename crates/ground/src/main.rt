@@ -4,9 +4,9 @@
 
 use anyhow::anyhow;
 use station::Station;
-use std::env;
+use std::{env, fs, io};
 use telemetry::Report;
-use text::{Event, Fault, Misread, parse_commands, parse_report, read_file};
+use text::{Event, Fault, Misread, parse_commands, parse_report};
 
 fn main(rt: HostRuntime) -> anyhow::Result<()> {
     match env::args(&rt)?.nth(1) {
@@ -16,7 +16,7 @@ fn main(rt: HostRuntime) -> anyhow::Result<()> {
         }
         Some(word) if word.as_str() == "--help" => help(&rt),
         Some(path) => {
-            let text = read_file(&rt, "ground", path.as_str())?;
+            let text = read_file(&rt, path.as_str())?;
             hear_all(&rt, station_of(&rt, &text)?)
         }
     }
@@ -36,6 +36,15 @@ fn help(rt: &HostRuntime) -> anyhow::Result<()> {
         "forget, sleep, wake, rule A B C D E F G H. At the end it says what is surely obeyed."
     )?;
     Ok(())
+}
+
+// Each program has this: no clause can say what a file gives, so it is no function of a library.
+fn read_file(rt: &HostRuntime, path: &str) -> io::Result<Vec<u8>> {
+    let text = fs::read(rt, path);
+    if let Err(error) = &text {
+        eprintln!(rt; "ground: {path}: {error}")?;
+    }
+    text
 }
 
 fn station_of(rt: &HostRuntime, text: &[u8]) -> anyhow::Result<Station> {

@@ -5,7 +5,6 @@
 mod cut;
 mod event;
 mod fault;
-mod file;
 mod flight;
 mod law;
 mod misread;
@@ -17,7 +16,6 @@ mod write;
 pub use cut::{Pieces, Stop, line_at, piece_len};
 pub use event::Event;
 pub use fault::{Expected, Fault, Unread};
-pub use file::read_file;
 pub use flight::{check, parse};
 pub use law::{WORDS, heard_after};
 pub use misread::Misread;

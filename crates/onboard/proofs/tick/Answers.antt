@@ -1,5 +1,4 @@
 use Rattle.std.proofs.Common.{◌≡◌, ℕ, List, Some, sym, refl, ap, ◌∙◌, subst}
-use Rattle.std.proofs.lemmas.Result.{err_from_is_err_and}
 use Rattle.memory.specs.Threefold.{voted_words, thrice}
 use Rattle.satellite.specs.Model.{model}
 use Rattle.satellite.specs.Story.{ticked}
@@ -7,16 +6,11 @@ use Rattle.satellite.specs.Fit.{Fit}
 use Rattle.layout.specs.Map.{word_count}
 use Rattle.layout.specs.Fault.{Lowest}
 use Rattle.telemetry.specs.Reports.{numbers_of}
-use Rattle.onboard.proofs.Entering.{fit_of, length_says, entered, ticked_says}
+use Rattle.onboard.proofs.Entering.{fit_of, entered, ticked_says}
 use Rattle.onboard.proofs.tick.Goals as goal
 
 pub tick-satellite-requires : goal.tick-satellite-requires
 tick-satellite-requires c = subst Fit (sym c.satellite.ensures) (fit_of c.read.new.words c.in_default.ensures)
-
-pub returns-in_err-readings : goal.returns-in_err-readings
-returns-in_err-readings c =
-    let p = err_from_is_err_and c.from_residual.result c.from_residual.ensures.1 in
-    rw (p.1, p.2) (entered _ _ _ _ _ _ _ c.type_inv.readings (length_says _ _ _ _ _ c.in_err-readings.ensures))
 
 pub returns-in-Some : goal.returns-in-Some
 returns-in-Some c =
