@@ -1,5 +1,5 @@
 -- A call that does what the entry says goes on with the flight.
-use Rattle.std.proofs.Common.{◌≡◌, ℕ, ◌+◌, ◌*◌, ◌<◌, ◌≤◌, ◌⊎◌, List, [], ◌∷◌, map, length, get_or, drop, Some, None, Ok, Err, Option, Result, sym, refl, ap, ◌∙◌, subst, arith, length-append, Fits, w16}
+use Rattle.std.proofs.Common.{◌≡◌, ℕ, ◌+◌, ◌*◌, ◌<◌, ◌≤◌, ◌⊎◌, List, [], ◌∷◌, map, length, get_or, drop, None, Ok, Err, Result, sym, refl, ap, ◌∙◌, subst, arith, length-append, Fits, w16}
 use Rattle.std.proofs.lemmas.Bool.Decides.{nat_tests}
 use Rattle.std.proofs.lemmas.Bool.{true≢false}
 use Rattle.std.specs.List.{range_with_len}
@@ -21,10 +21,9 @@ use Rattle.flight.specs.Machine.{launched}
 use Rattle.flight.specs.Flight.{after, Flew}
 use Rattle.flight.proofs.Flying.{flies_right, carries_on}
 use Rattle.flight.proofs.Fitting.{never_refused}
-use Rattle.onboard.specs.declared.Lent.{Lent}
 use Rattle.onboard.specs.declared.Refusal.{Refusal}
 use Rattle.onboard.specs.declared.Refusal.TheVariants.{Length, Unfit}
-use Rattle.onboard.specs.Entry.{wrong_length, refused_for, tick_of, Says, GoesOn}
+use Rattle.onboard.specs.Entry.{wrong_length, tick_of, Says, GoesOn}
 
 -- memory without fault says a state that can tick
 rule_fit : (ws : List ℕ) (k : ℕ) → Sane ws → k < 16 → RuleFit (rule_at ws k)
@@ -65,14 +64,6 @@ flown_length is kept flown =
 
 right_lengths : (m r f t : ℕ) → m ≡ 3 * word_count → r ≡ 16 → (f ≡ 0) ⊎ (f ≡ 12) → t ≡ 8 → wrong_length m r f t ≡ None
 right_lengths m r f t em er ef et = grind (arith, nat_tests)
-
--- a length that is refused is the first that is wrong, and nothing has changed
-pub length_says : (m r f t : List ℕ) (e : Refusal) → Err e ≡ refused_for (wrong_length (length m) (length r) (length f) (length t)) → Says (Err e) m r f t m t
-length_says m r f t e h = at_once (wrong_length (length m) (length r) (length f) (length t)) refl h
-  where
-    at_once : (w : Option Lent) → wrong_length (length m) (length r) (length f) (length t) ≡ w → Err e ≡ refused_for w → Says (Err e) m r f t m t
-    at_once None n x = cc
-    at_once (Some lent) n x = let z : e ≡ Length lent = cc in subst (λ (y : Refusal). Says (Err y) m r f t m t) (sym z) (n, refl, refl)
 
 goes_on : (d : Result (Unit {0}) Refusal) (m r f t m₁ t₁ : List ℕ) → ((k : ℕ) → get_or r k 0 ≤ 65535) → Says d m r f t m₁ t₁ → GoesOn d m r f t m₁ t₁
 goes_on (Ok u) m r f t m₁ t₁ small says is kept flown upset short lr lf lt =
