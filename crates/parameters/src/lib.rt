@@ -34,22 +34,20 @@ impl Parameters {
     }
 
     /// The first sixteen become what the instruments read.
-    pub fn read(self, readings: &[u16; 16]) -> Parameters
-        ensures { result.values ≡ read_in readings.now self.values }
+    #[inline(never)]
+    pub fn read(&mut self, readings: &[u16; 16])
+        ensures { self.new.values ≡ read_in readings.now self.old.values }
     {
-        let mut values = self.values;
-        values[..INSTRUMENTS].copy_from_slice(&readings.map(u64::from));
-        Parameters { values }
+        self.values[..INSTRUMENTS].copy_from_slice(&readings.map(u64::from));
     }
 
     /// The number stands at the place.
-    pub fn put(self, place: u64, number: u64) -> Parameters
+    pub fn put(&mut self, place: u64, number: u64)
         requires { place < 64 }
-        ensures { result.values ≡ slice_set self.values place number }
+        ensures { self.new.values ≡ slice_set self.old.values place number }
     {
-        let mut values = self.values;
-        values[place as usize] = number;
-        Parameters { values }
+        let place = place as usize;
+        self.values[place] = number;
     }
 
     /// What stands at the place.

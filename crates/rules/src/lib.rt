@@ -75,13 +75,11 @@ impl Rules {
     }
 
     /// A rule is this, and begins from 0.
-    pub fn set(self, index: u64, rule: Rule) -> Rules
+    pub fn set(&mut self, index: u64, rule: Rule)
         requires { index < 16 }
-        ensures rules { rules_of result ≡ set (rules_of self) index rule }
-        ensures counts { counts_of result ≡ set (counts_of self) index 0 }
+        ensures rules { rules_of self.new ≡ set (rules_of self.old) index rule }
+        ensures counts { counts_of self.new ≡ set (counts_of self.old) index 0 }
     {
-        let mut watches = self.watches;
-        watches[index as usize] = Watch { rule, count: 0 };
-        Rules { watches }
+        self.watches[index as usize] = Watch { rule, count: 0 };
     }
 }

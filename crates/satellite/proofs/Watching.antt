@@ -92,11 +92,11 @@ pub its_count : (k : ℕ) (s u : State) → u ≡ watched k s → k < 16 → Rul
 its_count k s u e l f = subst (λ n. n ≤ most) (sym (ap (λ (v : State). count v k) e ∙ count_before k k s (omega arith))) (f.counts k l)
 
 -- a rule that acts, and one that does not
-pub acts_one : (k : ℕ) (s u v : State) → u ≡ watched k s → v ≡ acted (rule u k) (counted k u) → acts (rule u k) (looked k u) ≡ true → v ≡ watched (k + 1) s
-acts_one k s u v e d a = d ∙ sym (cond-true (acts (rule u k) (looked k u)) (acted (rule u k) (counted k u)) (counted k u) a) ∙ ap (watched_one k) e ∙ sym (watched_more k s)
+pub acts_one : (k : ℕ) (u v : State) → v ≡ acted (rule u k) (counted k u) → acts (rule u k) (looked k u) ≡ true → v ≡ watched_one k u
+acts_one k u v d a = d ∙ sym (cond-true (acts (rule u k) (looked k u)) (acted (rule u k) (counted k u)) (counted k u) a)
 
-pub idle_one : (k : ℕ) (s u v : State) → u ≡ watched k s → v ≡ counted k u → acts (rule u k) (looked k u) ≡ false → v ≡ watched (k + 1) s
-idle_one k s u v e d a = d ∙ sym (cond-false (acts (rule u k) (looked k u)) (acted (rule u k) (counted k u)) (counted k u) a) ∙ ap (watched_one k) e ∙ sym (watched_more k s)
+pub idle_one : (k : ℕ) (u v : State) → v ≡ counted k u → acts (rule u k) (looked k u) ≡ false → v ≡ watched_one k u
+idle_one k u v d a = d ∙ sym (cond-false (acts (rule u k) (looked k u)) (acted (rule u k) (counted k u)) (counted k u) a)
 
 -- looking at rules changes safe mode, parameters and counts, and nothing else
 acted_kept : (r : Rule) (s : State) → acted r s ≡ with_safe_mode (acted r s).safe_mode (with_parameters (acted r s).parameters s)

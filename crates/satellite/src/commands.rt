@@ -7,29 +7,24 @@ use crate::state::Satellite;
 use frame::{Command, Telecommand};
 use parameters::may_put;
 use rules::COUNT;
-use schedule::Schedule;
 
 impl Satellite {
-    /// The expected command is done or counted as rejected, and then the next one is expected.
-    /// Any other command is as if it had not come.
-    pub fn obey(self, telecommand: Telecommand) -> Satellite
-        requires low_expected { self.expected ≤ most }
-        requires low_rejected { self.rejected ≤ most }
-        ensures { model result ≡ obeyed telecommand (model self) }
+    // The expected command is done or counted as rejected, and then the next one is expected.
+    // Any other command is as if it had not come.
+    pub(crate) fn obey(&mut self, telecommand: Telecommand)
+        requires low_expected { self.old.expected ≤ most }
+        requires low_rejected { self.old.rejected ≤ most }
+        ensures { model self.new ≡ obeyed telecommand (model self.old) }
     {
         if telecommand.number != self.expected {
-            return self;
+            return;
         }
-        let mut satellite = if self.can(telecommand.command) {
-            self.done(telecommand.command)
+        if self.can(telecommand.command) {
+            self.execute(telecommand.command);
         } else {
-            Satellite {
-                rejected: self.rejected + 1,
-                ..self
-            }
-        };
-        satellite.expected += 1;
-        satellite
+            self.rejected += 1;
+        }
+        self.expected += 1;
     }
 
     /// Whether a command can be done now.
@@ -47,37 +42,19 @@ impl Satellite {
         }
     }
 
-    /// Does a command that can be done.
-    pub fn done(self, command: Command) -> Satellite
-        requires { can (model self) command ≡ true }
-        ensures { model result ≡ done (model self) command }
+    // Does a command that can be done.
+    fn execute(&mut self, command: Command)
+        requires { can (model self.old) command ≡ true }
+        ensures { model self.new ≡ done (model self.old) command }
     {
         match command {
-            Command::Put { place, number } => Satellite {
-                parameters: self.parameters.put(place, number),
-                ..self
-            },
-            Command::Later { activity } => Satellite {
-                schedule: self.schedule.add(activity),
-                ..self
-            },
-            Command::Forget => Satellite {
-                schedule: Schedule::empty(),
-                ..self
-            },
-            Command::Sleep => Satellite {
-                safe_mode: true,
-                ..self
-            },
-            Command::Wake => Satellite {
-                safe_mode: false,
-                ..self
-            },
-            Command::SetRule { index, rule } => Satellite {
-                rules: self.rules.set(index, rule),
-                ..self
-            },
-            Command::Unknown { .. } => self,
+            Command::Put { place, number } => self.parameters.put(place, number),
+            Command::Later { activity } => self.schedule.add(activity),
+            Command::Forget => self.schedule.clear(),
+            Command::Sleep => self.safe_mode = true,
+            Command::Wake => self.safe_mode = false,
+            Command::SetRule { index, rule } => self.rules.set(index, rule),
+            Command::Unknown { .. } => {}
         }
     }
 }

@@ -1,4 +1,4 @@
-//! The satellite by value: every method takes it and gives it back.
+//! The satellite by value: each step of a tick takes it and gives it back.
 
 #![tactic(auto)]
 

@@ -1,8 +1,9 @@
 ghost use Rattle.std.specs.Prelude.{◌≡◌, ◌<◌, ◌≤◌, false};
 ghost use Rattle.schedule.specs.Waiting.{Placed, waiting};
+ghost use Rattle.frame.specs.Frame.{decoded};
 ghost use Rattle.satellite.specs.State.{at_launch, rule, count};
-ghost use Rattle.satellite.specs.Story.{begun, looked, acted, watched, released, ticked};
-ghost use Rattle.satellite.specs.Fit.{Fit, RulesFit, most};
+ghost use Rattle.satellite.specs.Story.{begun, looked, acted, watched_one, watched, released, heeded, ticked};
+ghost use Rattle.satellite.specs.Fit.{Fit, RuleFit, RulesFit, most};
 ghost use Rattle.satellite.specs.Model.{model};
 
 use crate::state::Satellite;
@@ -34,48 +35,57 @@ impl Satellite {
         requires { Fit (model self) }
         ensures { model result ≡ ticked (record { readings = readings.now; frame = frame.now }) (model self) }
     {
-        // To hand the satellite round copies it, so the last two steps are looked at first.
-        let mut satellite = self.begin(readings).watch();
-        if satellite.schedule.is_due(satellite.time) {
-            satellite = satellite.release();
-        }
-        let Some(telecommand) = decode(frame) else {
-            return satellite;
-        };
-        if telecommand.number == satellite.expected {
-            satellite = satellite.obey(telecommand);
-        }
-        satellite
+        self.begin(readings).watch().release().hear(frame)
     }
 
+    // Each step takes the satellite and gives it back. What it changes it changes in place, in a function that is not
+    // inlined: so the compiler sees that all steps can have the satellite in one place, and copies nothing (bench/README.md).
+
     /// Time goes on by one, and the first sixteen parameters are what the instruments read.
-    pub fn begin(self, readings: &[u16; 16]) -> Satellite
+    pub fn begin(mut self, readings: &[u16; 16]) -> Satellite
         requires { self.time ≤ most }
         ensures { model result ≡ begun readings.now (model self) }
     {
-        Satellite {
-            time: self.time + 1,
-            parameters: self.parameters.read(readings),
-            ..self
-        }
+        self.time += 1;
+        self.parameters.read(readings);
+        self
     }
 
     /// The rules are looked at from 0 to 15, each after what the ones before it did.
-    pub fn watch(self) -> Satellite
+    pub fn watch(mut self) -> Satellite
         requires { RulesFit (model self) }
         ensures { model result ≡ watched 16 (model self) }
     {
-        let mut satellite = self;
-        // By place, since the satellite is handed round: each rule sees what the ones before it did.
         for k in 0..COUNT {
-            let rule = satellite.rules.watches[k].rule;
-            let count = satellite.look(k);
-            satellite.rules.watches[k].count = count;
-            if rule.acts(count) {
-                satellite = satellite.act(rule);
-            }
+            self = self.turn(k);
         }
-        satellite
+        self
+    }
+
+    // A rule's turn: it is looked at, and acts if it is its time.
+    fn turn(mut self, k: usize) -> Satellite
+        requires inside { k < 16 }
+        requires fits { RuleFit (rule (model self) k) }
+        requires counted { count (model self) k ≤ most }
+        ensures { model result ≡ watched_one k (model self) }
+    {
+        self.take_turn(k);
+        self
+    }
+
+    #[inline(never)]
+    fn take_turn(&mut self, k: usize)
+        requires inside { k < 16 }
+        requires fits { RuleFit (rule (model self.old) k) }
+        requires counted { count (model self.old) k ≤ most }
+        ensures { model self.new ≡ watched_one k (model self.old) }
+    {
+        let rule = self.rules.watches[k].rule;
+        let count = self.look(k);
+        self.rules.watches[k].count = count;
+        if rule.acts(count) {
+            self.act(rule);
+        }
     }
 
     /// For how many ticks a rule has been past its limit, with this one.
@@ -89,38 +99,49 @@ impl Satellite {
         rule.next_count(self.parameters.at(rule.watches), count)
     }
 
-    /// What a rule does when it acts.
-    pub fn act(self, rule: Rule) -> Satellite
+    // What a rule does when it acts.
+    fn act(&mut self, rule: Rule)
         requires { rule.safes ≡ false → rule.place < 64 }
-        ensures { model result ≡ acted rule (model self) }
+        ensures { model self.new ≡ acted rule (model self.old) }
     {
         if rule.safes {
-            Satellite {
-                safe_mode: true,
-                ..self
-            }
+            self.safe_mode = true;
         } else {
-            Satellite {
-                parameters: self.parameters.put(rule.place, rule.number),
-                ..self
-            }
+            self.parameters.put(rule.place, rule.number);
         }
     }
 
     /// The activities whose time it is put their numbers, or are missed in safe mode.
-    pub fn release(self) -> Satellite
+    pub fn release(mut self) -> Satellite
         requires placed { Placed (waiting self.schedule) }
         requires low_missed { self.missed ≤ most }
         ensures { model result ≡ released (model self) }
     {
-        let released = self
+        self.missed += self
             .schedule
-            .release(self.time, self.safe_mode, self.parameters);
-        Satellite {
-            missed: self.missed + released.missed,
-            parameters: released.parameters,
-            schedule: released.schedule,
-            ..self
-        }
+            .release(self.time, self.safe_mode, &mut self.parameters);
+        self
+    }
+
+    /// The command of the frame that came up is obeyed, if the frame is whole.
+    pub fn hear(mut self, frame: &[u64]) -> Satellite
+        requires low_expected { self.expected ≤ most }
+        requires low_rejected { self.rejected ≤ most }
+        ensures { model result ≡ heeded (decoded frame.now) (model self) }
+    {
+        self.receive(frame);
+        self
+    }
+
+    #[inline(never)]
+    fn receive(&mut self, frame: &[u64])
+        requires low_expected { self.old.expected ≤ most }
+        requires low_rejected { self.old.rejected ≤ most }
+        ensures { model self.new ≡ heeded (decoded frame.now) (model self.old) }
+    {
+        let Some(telecommand) = decode(frame) else {
+            return;
+        };
+        self.obey(telecommand);
     }
 }

@@ -1,5 +1,5 @@
 -- Activities looked at one after the other: those that are due put or are missed, the others wait on.
-use Rattle.std.proofs.Common.{◌≡◌, ℕ, ◌+◌, ◌≤◌, Bool, true, false, cond, eqb, List, [], ◌∷◌, ◌++◌, ◌||◌, length, set, sym, refl, ap, ◌∙◌, subst, arith, length-append, length-set}
+use Rattle.std.proofs.Common.{◌≡◌, ℕ, ◌+◌, ◌≤◌, Bool, true, false, cond, eqb, List, [], ◌∷◌, ◌++◌, ◌||◌, length, set, sym, refl, ap, ◌∙◌, subst, arith, length-append}
 use Rattle.std.specs.List.{list_any}
 use Rattle.std.proofs.lemmas.Bool.{eq-eqb, ne_eqb, cond-true, cond-false, true≢false, eqb-true, eqb-false}
 use Rattle.schedule.specs.declared.activity.Activity.{Activity}
@@ -41,12 +41,15 @@ none_due t (x ∷ xs) e = none_more t x xs (eqb x.release t) refl e (none_due t 
 
 -- what is left, lost and put once these were looked at
 pub record Sofar (time : ℕ) (safe : Bool) (before : List ℕ) (seen still : List Activity) (missed : ℕ) (values : List ℕ) : Type 0 where
-  pub places : length values ≡ 64
   pub few : length still ≤ length seen
   pub small : missed ≤ length seen
   pub front : still ≡ still_waiting time seen
   pub put : values ≡ cond safe before (put_all (due time seen) before)
   pub lost : missed ≡ cond safe (length (due time seen)) 0
+
+pub none_seen : (time : ℕ) (safe : Bool) (before : List ℕ) (still : List Activity) → still ≡ [] → Sofar time safe before [] still 0 before
+none_seen time true before still e = record { few = omega (arith, ap length e); small = omega arith; front = e; put = refl; lost = refl }
+none_seen time false before still e = record { few = omega (arith, ap length e); small = omega arith; front = e; put = refl; lost = refl }
 
 due_on : (t : ℕ) (xs : List Activity) (a : Activity) → a.release ≡ t → due t (xs ++ (a ∷ [])) ≡ due t xs ++ (a ∷ [])
 due_on t xs a e = due_push t xs a ∙ cond-true (eqb a.release t) _ _ (eq-eqb a.release t e)
@@ -64,7 +67,6 @@ still_off t xs a f = still_push t xs a ∙ cond-false (eqb a.release t) _ _ (ne_
 pub waits_on : (time : ℕ) (safe : Bool) (before : List ℕ) (seen still new : List Activity) (missed : ℕ) (values : List ℕ) (a : Activity) → (a.release ≡ time → ⊥) → new ≡ still ++ (a ∷ [])
     → Sofar time safe before seen still missed values → Sofar time safe before (seen ++ (a ∷ [])) new missed values
 waits_on time safe before seen still new missed values a f e s = record {
-  places = s.places;
   few = omega (arith, ap length e, length-append still (a ∷ []), length-append seen (a ∷ []), s.few);
   small = omega (arith, length-append seen (a ∷ []), s.small);
   front = e ∙ ap (λ (l : List Activity). l ++ (a ∷ [])) s.front ∙ sym (still_off time seen a f);
@@ -75,7 +77,6 @@ waits_on time safe before seen still new missed values a f e s = record {
 pub missing : (time : ℕ) (safe : Bool) (before : List ℕ) (seen still : List Activity) (missed : ℕ) (values : List ℕ) (a : Activity) → a.release ≡ time → safe ≡ true
     → Sofar time safe before seen still missed values → Sofar time safe before (seen ++ (a ∷ [])) still (missed + 1) values
 missing time true before seen still missed values a e y s = record {
-  places = s.places;
   few = omega (arith, length-append seen (a ∷ []), s.few);
   small = omega (arith, length-append seen (a ∷ []), s.small);
   front = s.front ∙ sym (still_on time seen a e);
@@ -88,7 +89,6 @@ pub putting : (time : ℕ) (safe : Bool) (before : List ℕ) (seen still : List 
     → Sofar time safe before seen still missed values → Sofar time safe before (seen ++ (a ∷ [])) still missed (set values a.place a.number)
 putting time true before seen still missed values a e y s = absurd (true≢false y)
 putting time false before seen still missed values a e y s = record {
-  places = length-set values a.place a.number ∙ s.places;
   few = omega (arith, length-append seen (a ∷ []), s.few);
   small = omega (arith, length-append seen (a ∷ []), s.small);
   front = s.front ∙ sym (still_on time seen a e);

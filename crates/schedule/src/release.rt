@@ -15,15 +15,6 @@ pub const NO_ACTIVITY: Activity = Activity {
     number: 0,
 };
 
-/// What the release of a tick's due activities leaves.
-#[derive(Clone, Copy)]
-pub struct Released {
-    pub schedule: Schedule,
-    pub parameters: Parameters,
-    /// How many came due in safe mode.
-    pub missed: u64,
-}
-
 impl Schedule {
     /// Nothing waits.
     pub fn empty() -> Schedule
@@ -66,18 +57,15 @@ impl Schedule {
             .any(|activity| activity.release == time)
     }
 
-    /// One more activity waits, behind the others.
-    pub fn add(self, activity: Activity) -> Schedule
-        requires { length (waiting self) < 32 }
-        ensures { waiting result ≡ waiting self ++ (activity ∷ []) }
+    /// Nothing waits any more.
+    pub fn clear(&mut self)
+        ensures { waiting self.new ≡ [] }
     {
-        let mut schedule = self;
-        schedule.push(activity);
-        schedule
+        self.count = 0;
     }
 
-    // The same in place.
-    fn push(&mut self, activity: Activity)
+    /// One more activity waits, behind the others.
+    pub fn add(&mut self, activity: Activity)
         requires { length (waiting self.old) < 32 }
         ensures { waiting self.new ≡ waiting self.old ++ (activity ∷ []) }
     {
@@ -86,28 +74,30 @@ impl Schedule {
     }
 
     /// The due activities put their numbers, one after the other, or are missed in safe mode; either way they are gone.
-    pub fn release(self, time: u64, safe_mode: bool, parameters: Parameters) -> Released
-        requires { Placed (waiting self) }
-        ensures waiting { waiting result.schedule ≡ still_waiting time (waiting self) }
-        ensures put { result.parameters.values ≡ cond safe_mode parameters.values (put_all (due time (waiting self)) parameters.values) }
-        ensures missed { result.missed ≡ cond safe_mode (length (due time (waiting self))) 0 }
-        ensures few { result.missed ≤ 32 }
+    /// It answers how many were missed.
+    #[inline(never)]
+    pub fn release(&mut self, time: u64, safe_mode: bool, parameters: &mut Parameters) -> u64
+        requires { Placed (waiting self.old) }
+        ensures waiting { waiting self.new ≡ still_waiting time (waiting self.old) }
+        ensures put { parameters.new.values ≡ cond safe_mode parameters.old.values (put_all (due time (waiting self.old)) parameters.old.values) }
+        ensures missed { result ≡ cond safe_mode (length (due time (waiting self.old))) 0 }
+        ensures few { result ≤ 32 }
     {
-        let mut schedule = Schedule::empty();
-        let mut parameters = parameters;
+        // Mostly nothing is due, which is found out sooner than it is done.
+        if !self.is_due(time) {
+            return 0;
+        }
+        let before = *self;
+        self.clear();
         let mut missed = 0;
-        for activity in self.waiting() {
+        for activity in before.waiting() {
             match fate(*activity, time, safe_mode) {
-                Fate::Waits => schedule.push(*activity),
+                Fate::Waits => self.add(*activity),
                 Fate::Missed => missed += 1,
-                Fate::Done => parameters.values[activity.place as usize] = activity.number,
+                Fate::Done => parameters.put(activity.place, activity.number),
             }
         }
-        Released {
-            schedule,
-            parameters,
-            missed,
-        }
+        missed
     }
 }
 
