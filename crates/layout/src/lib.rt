@@ -10,4 +10,4 @@ mod write;
 pub use checks::{fault, faults_right};
 pub use map::{WORDS, reads_back};
 pub use read::satellite;
-pub use write::words;
+pub use write::write_words;

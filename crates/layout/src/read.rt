@@ -1,6 +1,6 @@
 ghost use Rattle.std.specs.Prelude.{◌≡◌, ◌+◌, ◌<◌, ◌≤◌, map, take, drop, slice_index};
 ghost use Rattle.std.specs.List.{range_with_len};
-ghost use Rattle.rules.specs.Watches.{rules_of, counts_of};
+ghost use Rattle.rules.specs.Watches.{rule_of, count_of};
 ghost use Rattle.satellite.specs.Model.{model};
 ghost use Rattle.layout.specs.Map.{activity_at, watch_at, rules_in, state_of};
 
@@ -8,42 +8,47 @@ use crate::map::{
     ACTIVITIES, ACTIVITY, COUNTS, EXPECTED, MISSED, PARAMETERS, REJECTED, RULE, RULES, SAFE_MODE,
     TIME, WAITING,
 };
-use parameters::Parameters;
-use rules::{Rule, Rules, Watch};
+use rules::{Rule, Watch};
 use satellite::Satellite;
-use schedule::{Activity, NO_ACTIVITY, ROOM, Schedule};
+use schedule::Activity;
 
 /// The satellite that words say. No `From`: this crate owns neither type.
 pub fn satellite(words: &[u64; 294]) -> Satellite
     requires { slice_index words.now 69 ≤ 32 }
     ensures { model result ≡ state_of words.now }
 {
-    Satellite {
-        time: words[TIME],
-        expected: words[EXPECTED],
-        safe_mode: words[SAFE_MODE] == 1,
-        rejected: words[REJECTED],
-        missed: words[MISSED],
-        parameters: Parameters {
-            values: part(words, PARAMETERS),
-        },
-        schedule: Schedule {
-            activities: activities(words),
-            count: words[WAITING] as usize,
-        },
-        rules: rules(words),
-    }
+    let mut satellite = Satellite::at_launch();
+    fill(words, &mut satellite);
+    satellite
+}
+
+// In place, and not inlined, so that to give the satellite back costs nothing.
+#[inline(never)]
+fn fill(words: &[u64; 294], satellite: &mut Satellite)
+    requires { slice_index words.now 69 ≤ 32 }
+    ensures { model satellite.new ≡ state_of words.now }
+{
+    satellite.time = words[TIME];
+    satellite.expected = words[EXPECTED];
+    satellite.safe_mode = words[SAFE_MODE] == 1;
+    satellite.rejected = words[REJECTED];
+    satellite.missed = words[MISSED];
+    satellite
+        .parameters
+        .values
+        .copy_from_slice(&words[PARAMETERS..WAITING]);
+    satellite.schedule.count = words[WAITING] as usize;
+    fill_activities(words, &mut satellite.schedule.activities);
+    fill_watches(words, &mut satellite.rules.watches);
 }
 
 // All that there is room for, whether they wait or not.
-fn activities(words: &[u64; 294]) -> [Activity; 32]
-    ensures { result ≡ map (activity_at words.now) (range_with_len 0 32) }
+fn fill_activities(words: &[u64; 294], activities: &mut [Activity; 32])
+    ensures { activities.new ≡ map (activity_at words.now) (range_with_len 0 32) }
 {
-    let mut activities = [NO_ACTIVITY; ROOM];
     for (k, room) in activities.iter_mut().enumerate() {
         *room = activity(words, k);
     }
-    activities
 }
 
 pub(crate) fn activity(words: &[u64; 294], k: usize) -> Activity
@@ -53,15 +58,13 @@ pub(crate) fn activity(words: &[u64; 294], k: usize) -> Activity
     Activity::from(part(words, ACTIVITIES + ACTIVITY * k))
 }
 
-fn rules(words: &[u64; 294]) -> Rules
-    ensures rules { rules_of result ≡ rules_in words.now }
-    ensures counts { counts_of result ≡ take 16 (drop 278 words.now) }
+fn fill_watches(words: &[u64; 294], watches: &mut [Watch; 16])
+    ensures rules { map rule_of watches.new ≡ rules_in words.now }
+    ensures counts { map count_of watches.new ≡ take 16 (drop 278 words.now) }
 {
-    let mut rules = Rules::at_launch();
-    for (k, room) in rules.watches.iter_mut().enumerate() {
+    for (k, room) in watches.iter_mut().enumerate() {
         *room = watch(words, k);
     }
-    rules
 }
 
 pub(crate) fn watch(words: &[u64; 294], k: usize) -> Watch

@@ -4,15 +4,15 @@ ghost use Rattle.rules.specs.Watches.{rule_of};
 ghost use Rattle.satellite.specs.Model.{model};
 ghost use Rattle.layout.specs.Map.{activity_words, rule_words, words_of};
 
-use crate::map::{ACTIVITIES, ACTIVITY, COUNTS, PARAMETERS, RULE, RULES, TIME, WAITING, WORDS};
+use crate::map::{ACTIVITIES, ACTIVITY, COUNTS, PARAMETERS, RULE, RULES, TIME, WAITING};
 use rules::{COUNT, Watch};
 use satellite::Satellite;
-use schedule::Activity;
+use schedule::{Activity, ROOM};
 use std::array;
 
-/// The words of a satellite. No `From`: this crate owns neither type.
-pub fn words(satellite: Satellite) -> [u64; 294]
-    ensures { result ≡ words_of (model satellite) }
+/// Writes the words of a satellite. It writes to the caller's array, for an array that is given back is copied.
+pub fn write_words(satellite: &Satellite, words: &mut [u64; 294])
+    ensures { words.new ≡ words_of (model satellite.now) }
 {
     let head = [
         satellite.time,
@@ -24,14 +24,14 @@ pub fn words(satellite: Satellite) -> [u64; 294]
     let schedule = &satellite.schedule;
     let watches = &satellite.rules.watches;
     let counts: [u64; COUNT] = array::from_fn(|k| watches[k].count);
-    let mut words = [0; WORDS];
-    lay(&mut words, TIME, &head);
-    lay(&mut words, PARAMETERS, &satellite.parameters.values);
-    lay(&mut words, WAITING, &[schedule.len() as u64]);
-    lay_activities(&mut words, schedule.waiting());
-    lay_rules(&mut words, watches);
-    lay(&mut words, COUNTS, &counts);
-    words
+    lay(words, TIME, &head);
+    lay(words, PARAMETERS, &satellite.parameters.values);
+    lay(words, WAITING, &[schedule.len() as u64]);
+    // Noughts where no activity waits.
+    lay(words, ACTIVITIES, &[0; ACTIVITY * ROOM]);
+    lay_activities(words, schedule.waiting());
+    lay_rules(words, watches);
+    lay(words, COUNTS, &counts);
 }
 
 // No generic loop for this and `lay_rules`: what numbers a thing has would be an `Fn` over a const parameter, of which
@@ -47,7 +47,8 @@ fn lay_activities(words: &mut [u64; 294], waiting: &[Activity])
 }
 
 fn lay_rules(words: &mut [u64; 294], watches: &[Watch; 16])
-    ensures { words.new ≡ take 166 words.old ++ (flat_map rule_words (map rule_of watches.now) ++ drop 278 words.old) }
+    ensures laid { words.new ≡ take 166 words.old ++ (flat_map rule_words (map rule_of watches.now) ++ drop 278 words.old) }
+    ensures long { length watches.now ≡ 16 }
 {
     for (k, watch) in watches.iter().enumerate() {
         let numbers = <[u64; RULE]>::from(watch.rule);
@@ -55,10 +56,22 @@ fn lay_rules(words: &mut [u64; 294], watches: &[Watch; 16])
     }
 }
 
-// Writes a part of the words, from a place on.
-fn lay(words: &mut [u64; 294], from: usize, part: &[u64])
-    requires { from + length part.now ≤ 294 }
-    ensures { words.new ≡ take from words.old ++ (part.now ++ drop (from + length part.now) words.old) }
+// Writes a part of the words, from a place on. How long the part is, is said here and in `lay_rules` since a caller that
+// lends an array of a satellite behind a reference does not know it.
+fn lay<const M: usize>(words: &mut [u64; 294], from: usize, part: &[u64; M])
+    requires { from + M ≤ 294 }
+    ensures laid { words.new ≡ take from words.old ++ (part.now ++ drop (from + M) words.old) }
+    ensures long { length part.now ≡ M }
 {
-    words[from..from + part.len()].copy_from_slice(part);
+    replace(&mut words[from..from + M], part);
+}
+
+// The room becomes the part. As an array of its length: `copy_from_slice` would look each time whether the two overlap.
+fn replace<const M: usize>(room: &mut [u64], part: &[u64; M])
+    requires { length room.old ≡ M }
+    ensures { room.new ≡ part.now }
+{
+    if let Some(room) = room.as_mut_array::<M>() {
+        *room = *part;
+    }
 }

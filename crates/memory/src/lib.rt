@@ -2,7 +2,7 @@
 
 #![tactic(auto)]
 
-ghost use Rattle.std.specs.Prelude.{◌≡◌, ◌+◌, ◌*◌, ◌<◌, length};
+ghost use Rattle.std.specs.Prelude.{◌≡◌, ◌+◌, ◌*◌, ◌<◌, length, take};
 ghost use Rattle.memory.specs.Threefold.{majority, voted, voted_words, thrice, VotesMend, UpsetsHappen};
 
 /// Of three copies the number on which two agree, the first if none do.
@@ -51,16 +51,15 @@ impl<'a, const N: usize> Copies<'a, N> {
     }
 }
 
-/// Writes each word three times.
-pub fn store<const N: usize>(memory: &mut [u64], words: [u64; N])
+/// Writes the second and third copy of each word after the first.
+pub fn repeat<const N: usize>(memory: &mut [u64])
     requires { length memory.old ≡ 3 * N }
-    ensures { memory.new ≡ thrice words.entry }
+    ensures { memory.new ≡ thrice (take N memory.old) }
 {
     let (first, others) = memory.split_at_mut(N);
     let (second, third) = others.split_at_mut(N);
-    first.copy_from_slice(&words);
-    second.copy_from_slice(&words);
-    third.copy_from_slice(&words);
+    second.copy_from_slice(first);
+    third.copy_from_slice(first);
 }
 
 /// An upset in one copy of each word at most is voted away.

@@ -2,11 +2,17 @@
 
 #![tactic(auto)]
 
-ghost use Rattle.std.specs.Prelude.{◌≡◌, length, Some, None, Err, MatchResult};
+ghost use Rattle.std.specs.Prelude.{◌≡◌, ◌≤◌, length, slice_index, Some, None, Err, MatchResult};
+ghost use Rattle.memory.specs.Threefold.{thrice};
+ghost use Rattle.satellite.specs.Story.{ticked};
+ghost use Rattle.satellite.specs.Fit.{Fit};
+ghost use Rattle.satellite.specs.Model.{model};
+ghost use Rattle.layout.specs.Map.{words_of, state_of};
+ghost use Rattle.telemetry.specs.Reports.{report_of, numbers_of};
 ghost use Rattle.onboard.specs.Entry.{refusal_number, refusal_place, refusal_text, wrong_length, refused_for, Says, GoesOn, Launches};
 
 use layout::{WORDS, fault};
-use memory::{Copies, store};
+use memory::{Copies, repeat};
 use parameters::INSTRUMENTS;
 use satellite::Satellite;
 use std::fmt;
@@ -72,7 +78,7 @@ pub fn launch(memory: &mut [u64]) -> Result<(), Refusal>
     if memory.len() != 3 * WORDS {
         return Err(Refusal::Length(Lent::Memory));
     }
-    store(memory, layout::words(Satellite::at_launch()));
+    keep(memory, &Satellite::at_launch());
     Ok(())
 }
 
@@ -93,10 +99,39 @@ pub fn tick(
     if let Some(word) = fault(&words) {
         return Err(Refusal::Unfit { word });
     }
-    let satellite = layout::satellite(&words).tick(readings, frame);
-    store(memory, layout::words(satellite));
-    report.copy_from_slice(&Telemetry::from(&satellite).numbers());
+    fly(memory, &words, readings, frame, report);
     Ok(())
+}
+
+// The tick of words that say a satellite. By itself, so that the compiler sees each copy of a satellite close to what makes it.
+fn fly(
+    memory: &mut [u64],
+    words: &[u64; 294],
+    readings: &[u16; 16],
+    frame: &[u64],
+    report: &mut [u64],
+)
+    requires long { length memory.old ≡ 882 }
+    requires told { length report.old ≡ 8 }
+    requires few { slice_index words.now 69 ≤ 32 }
+    requires fit { Fit (state_of words.now) }
+    ensures kept { memory.new ≡ thrice (words_of (ticked (record { readings = readings.now; frame = frame.now }) (state_of words.now))) }
+    ensures told { report.new ≡ numbers_of (report_of (ticked (record { readings = readings.now; frame = frame.now }) (state_of words.now))) }
+{
+    let satellite = layout::satellite(words).tick(readings, frame);
+    keep(memory, &satellite);
+    report.copy_from_slice(&Telemetry::from(&satellite).numbers());
+}
+
+// Writes the words of a satellite three times.
+fn keep(memory: &mut [u64], satellite: &Satellite)
+    requires { length memory.old ≡ 882 }
+    ensures { memory.new ≡ thrice (words_of (model satellite.now)) }
+{
+    if let Some(first) = memory.first_chunk_mut::<WORDS>() {
+        layout::write_words(satellite, first);
+    }
+    repeat::<WORDS>(memory);
 }
 
 // The sixteen readings, if all that is lent has the length that it should have; else the first that has another is refused.

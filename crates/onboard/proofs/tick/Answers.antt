@@ -1,16 +1,15 @@
-use Rattle.std.proofs.Common.{◌≡◌, ℕ, List, Some, sym, refl, ap, ◌∙◌, subst}
+use Rattle.std.proofs.Common.{◌≡◌, ℕ, List, Some, refl, ap, ◌∙◌, subst}
 use Rattle.memory.specs.Threefold.{voted_words, thrice}
-use Rattle.satellite.specs.Model.{model}
+use Rattle.satellite.specs.State.{State}
 use Rattle.satellite.specs.Story.{ticked}
-use Rattle.satellite.specs.Fit.{Fit}
-use Rattle.layout.specs.Map.{word_count}
+use Rattle.layout.specs.Map.{word_count, words_of, state_of}
 use Rattle.layout.specs.Fault.{Lowest}
-use Rattle.telemetry.specs.Reports.{numbers_of}
+use Rattle.telemetry.specs.Reports.{report_of, numbers_of}
 use Rattle.onboard.proofs.Entering.{fit_of, entered, ticked_says}
 use Rattle.onboard.proofs.tick.Goals as goal
 
-pub tick-satellite-requires : goal.tick-satellite-requires
-tick-satellite-requires c = subst Fit (sym c.satellite.ensures) (fit_of c.read.new.words c.in_default.ensures)
+pub fly-requires-clause-fit : goal.fly-requires-clause-fit
+fly-requires-clause-fit c = fit_of c.read.new.words c.in_default.ensures
 
 pub returns-in-Some : goal.returns-in-Some
 returns-in-Some c =
@@ -19,8 +18,9 @@ returns-in-Some c =
 
 pub returns : goal.returns
 returns c =
+    let after : State = ticked (record { readings = c.args.readings.now; frame = c.args.frame.now }) (state_of c.read.new.words) in
+    let same = ap (λ (r : List ℕ). ticked (record { readings = r; frame = c.args.frame.now }) (state_of c.read.new.words)) c.in_ok-readings.ensures.0 in
     entered _ _ _ _ _ _ _ c.type_inv.readings
-    (ticked_says _ _ _ _ _ _ c.read.new.words (model c.tick-satellite.result) (c.in_ok-readings.ensures.1)
-    (c.read.ensures ∙ ap (voted_words word_count) c.new.ensures) c.in_default.ensures
-    (c.tick-satellite.ensures ∙ ap (λ (r : List ℕ). ticked (record { readings = r; frame = c.args.frame.now }) (model c.satellite.result)) c.in_ok-readings.ensures.0 ∙ ap (ticked (record { readings = c.args.readings.now; frame = c.args.frame.now })) c.satellite.ensures)
-    (c.store.ensures ∙ ap thrice c.words.ensures) (c.copy_from_slice.ensures.after ∙ c.numbers.ensures.value ∙ ap numbers_of c.from.ensures))
+    (ticked_says _ _ _ _ _ _ c.read.new.words after (c.in_ok-readings.ensures.1)
+    (c.read.ensures ∙ ap (voted_words word_count) c.new.ensures) c.in_default.ensures refl
+    (c.fly.ensures.kept ∙ ap (λ (s : State). thrice (words_of s)) same) (c.fly.ensures.told ∙ ap (λ (s : State). numbers_of (report_of s)) same))

@@ -1,9 +1,8 @@
-use Rattle.std.proofs.Common.{◌+◌, ◌*◌, get_or, take, sym, refl, arith, take-append-drop}
+use Rattle.std.proofs.Common.{◌+◌, get_or, take, sym, refl, arith, take-append-drop}
 use Rattle.std.proofs.lemmas.List.{take_more, length-take-le}
 use Rattle.schedule.specs.Waiting.{no_activity}
 use Rattle.layout.specs.Map.{activity_words}
 use Rattle.layout.proofs.Units.{laid_one}
-use Rattle.layout.proofs.Writing.{laid_as}
 use Rattle.layout.proofs.write.lay_activities.Goals as goal
 
 pub loop-k-init : goal.loop-k-init
@@ -12,6 +11,6 @@ loop-k-init c = sym (take-append-drop 70 c.args.words.now)
 pub loop-k-preserved : goal.loop-k-preserved
 loop-k-preserved c =
     let a = c.args.waiting.now in
-    laid_one 3 activity_words (λ x. refl) 70 c.loop-k.k c.args.words.now (activity_words (get_or a c.loop-k.k no_activity)) c.loop-k.words c.lay.new.words
+    laid_one 3 activity_words (λ x. refl) 70 c.loop-k.k c.args.words.now c.from-numbers.result c.loop-k.words c.lay.new.words
     (take c.loop-k.k a) (take (c.loop-k.k + 1) a) (get_or a c.loop-k.k no_activity) (length-take-le c.loop-k.k a (omega arith)) (take_more a c.loop-k.k no_activity (omega arith))
-    refl (omega arith) c.loop-k.invariant (laid_as (70 + 3 * c.loop-k.k) 3 _ _ _ (activity_words (get_or a c.loop-k.k no_activity)) c.from-numbers.ensures refl c.lay.ensures)
+    c.from-numbers.ensures (omega arith) c.loop-k.invariant c.lay.ensures.laid

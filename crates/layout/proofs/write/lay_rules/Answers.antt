@@ -5,7 +5,6 @@ use Rattle.rules.specs.Watching.{off}
 use Rattle.rules.specs.Watches.{rule_of}
 use Rattle.layout.specs.Map.{rule_words}
 use Rattle.layout.proofs.Units.{laid_one}
-use Rattle.layout.proofs.Writing.{laid_as}
 use Rattle.layout.proofs.write.lay_rules.Goals as goal
 
 pub loop-k-init : goal.loop-k-init
@@ -17,12 +16,12 @@ loop-k-preserved c =
     let n : length r ≡ 16 = length-map c.args.watches.now rule_of ∙ c.told-watches in
     let part : c.from-numbers.result ≡ rule_words (get_or r c.loop-k.k off) =
     c.from-numbers.ensures ∙ ap rule_words (sym (get_or-map rule_of c.args.watches.now c.loop-k.k (record { rule = off; count = 0 }) off (omega arith))) in
-    laid_one 7 rule_words (λ x. refl) 166 c.loop-k.k c.args.words.now (rule_words (get_or r c.loop-k.k off)) c.loop-k.words c.lay.new.words
+    laid_one 7 rule_words (λ x. refl) 166 c.loop-k.k c.args.words.now c.from-numbers.result c.loop-k.words c.lay.new.words
     (take c.loop-k.k r) (take (c.loop-k.k + 1) r) (get_or r c.loop-k.k off) (length-take-le c.loop-k.k r (omega (arith, n))) (take_more r c.loop-k.k off (omega (arith, n)))
-    refl (omega arith) c.loop-k.invariant (laid_as (166 + 7 * c.loop-k.k) 7 _ _ _ (rule_words (get_or r c.loop-k.k off)) part refl c.lay.ensures)
+    part (omega arith) c.loop-k.invariant c.lay.ensures.laid
 
-pub returns : goal.returns
-returns c =
+pub returns-clause-laid : goal.returns-clause-laid
+returns-clause-laid c =
     let r = map rule_of c.args.watches.now in
     let n : length r ≡ 16 = length-map c.args.watches.now rule_of ∙ c.told-watches in
     let k : c.loop-k.k ≡ 16 = omega arith in

@@ -1,7 +1,7 @@
 use Rattle.std.proofs.Common.{eqb, get_or, take, ap, ◌∙◌}
 use Rattle.std.proofs.lemmas.List.FromFn.{take-map-range_with_len}
 use Rattle.layout.specs.Map.{activity_at, schedule_in, state_of}
-use Rattle.layout.proofs.read.satellite.Goals as goal
+use Rattle.layout.proofs.read.fill.Goals as goal
 
 pub returns : goal.returns
 unfolding state_of schedule_in
@@ -13,8 +13,8 @@ returns c =
       safe_mode = eqb (get_or w 2 0) 1;
       rejected = get_or w 3 0;
       missed = get_or w 4 0;
-      parameters = c.part.ensures i;
-      schedule = (ap (take (get_or w 69 0)) c.activities.ensures ∙ take-map-range_with_len (activity_at w) 0 32 (get_or w 69 0) c.requires) i;
-      rules = c.rules.ensures.rules i;
-      counts = c.rules.ensures.counts i;
+      parameters = c.copy_from_slice.ensures.after i;
+      schedule = (ap (take (get_or w 69 0)) c.fill_activities.ensures ∙ take-map-range_with_len (activity_at w) 0 32 (get_or w 69 0) c.requires) i;
+      rules = c.fill_watches.ensures.rules i;
+      counts = c.fill_watches.ensures.counts i;
     }
