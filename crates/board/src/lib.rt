@@ -1,4 +1,4 @@
-//! The entries as a board written in C calls them: lent numbers in, one number out. `board_c` exports them.
+//! The entries as a board written in C calls them, in a static library that it links: lent numbers in, one number out.
 
 #![tactic(auto)]
 
@@ -12,14 +12,21 @@ use onboard::Refusal;
 const PLACES: u64 = 1 << 32;
 
 /// Writes the memory of a satellite at launch, and answers as a tick does.
-pub fn board_launch(memory: &mut [u64]) -> u64
+#[unsafe(no_mangle)]
+pub extern "C" fn board_launch(memory: &mut [u64]) -> u64
     ensures { AnswersLaunch result memory.old memory.new }
 {
     answer(onboard::launch(memory))
 }
 
 /// One tick. 0 says that it is done; else the upper half is the number of the refusal and the lower half its place.
-pub fn board_tick(memory: &mut [u64], readings: &[u16], frame: &[u64], report: &mut [u64]) -> u64
+#[unsafe(no_mangle)]
+pub extern "C" fn board_tick(
+    memory: &mut [u64],
+    readings: &[u16],
+    frame: &[u64],
+    report: &mut [u64],
+) -> u64
     ensures { AnswersTick result memory.old readings.now frame.now report.old memory.new report.new }
 {
     answer(onboard::tick(memory, readings, frame, report))
