@@ -15,6 +15,9 @@
 
 enum { STACK = 1 << 18, PAINT = 0xa5, FLOWN = 100 };
 
+// What a board may count on: bytes of stack, instructions of a tick, and of one that is refused for its memory.
+enum { STACK_MOST = 10000, TICK_MOST = 7000, REFUSAL_MOST = 15000 };
+
 // Ticks of prepared satellites: whether a rule is commanded too, and whether the last word is at fault.
 static const struct {
     const char *name;
@@ -127,14 +130,24 @@ static void count_steps(Tick *by, long *steps) {
     waitpid(pid, &status, 0);
 }
 
+// Whether a tick of the proved library keeps within what is promised for it.
+static bool within(const char *what, long needed, long most) {
+    if (needed > most) printf("over budget: %s: %ld, where at most %ld may be\n", what, needed, most);
+    return needed <= most;
+}
+
 int main(void) {
     static long rattle[PREPARED], plain[PREPARED];
-    printf("stack that a tick needs, most of %d ticks: Rattle %zu bytes, plain C %zu, fast C %zu\n", TICKS,
-           most_stack(board_tick), most_stack(plain_tick), most_stack(fast_tick));
+    // C first: a function of the C library takes stack to be found when it is called for the first time.
+    size_t fast_stack = most_stack(fast_tick), plain_stack = most_stack(plain_tick), stack = most_stack(board_tick);
+    printf("stack that a tick needs, most of %d ticks: Rattle %zu bytes, plain C %zu, fast C %zu\n", TICKS, stack,
+           plain_stack, fast_stack);
     fflush(stdout);
     count_steps(board_tick, rattle);
     count_steps(plain_tick, plain);
     printf("%-34s %8s %8s\n", "instructions", "plain C", "Rattle");
     for (int n = 0; n < PREPARED; n++) printf("%-34s %8ld %8ld\n", prepared[n].name, plain[n], rattle[n]);
-    return 0;
+    bool well = within("bytes of stack", (long)stack, STACK_MOST);
+    for (int n = 0; n < PREPARED; n++) well &= within(prepared[n].name, rattle[n], prepared[n].at_fault ? REFUSAL_MOST : TICK_MOST);
+    return well ? 0 : 1;
 }

@@ -35,7 +35,7 @@ pub fn write_words(satellite: &Satellite, words: &mut [u64; 294])
 }
 
 // No generic loop for this and `lay_rules`: what numbers a thing has would be an `Fn` over a const parameter, of which
-// nothing is proved. And arrays of the numbers of all, made by `map` and laid at once, make a tick take two thirds longer.
+// nothing is proved. And arrays of the numbers of all, made by `map` and laid at once, are cleared and copied as a whole.
 fn lay_activities(words: &mut [u64; 294], waiting: &[Activity])
     requires { length waiting.now ≤ 32 }
     ensures { words.new ≡ take 70 words.old ++ (flat_map activity_words waiting.now ++ drop (70 + 3 * length waiting.now) words.old) }

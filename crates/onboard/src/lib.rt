@@ -123,7 +123,7 @@ fn fly(
     report.copy_from_slice(&Telemetry::from(&satellite).numbers());
 }
 
-// Writes the words of a satellite three times.
+// Writes the words of a satellite three times. (There always is a first copy: the `requires` says so.)
 fn keep(memory: &mut [u64], satellite: &Satellite)
     requires { length memory.old ≡ 882 }
     ensures { memory.new ≡ thrice (words_of (model satellite.now)) }
