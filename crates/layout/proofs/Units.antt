@@ -20,18 +20,24 @@ getD_joined m f d each (x ∷ xs) rest (suc i) j a b =
     ∙ get_or-append_right (f x) (flat_map f xs ++ rest) m (m * suc i + j) 0 (each x) (omega (arith, mul-suc m i))
     ∙ ap (λ n. get_or (flat_map f xs ++ rest) n 0) e ∙ getD_joined m f d each xs rest i j (omega arith) b
 
--- one more part behind those that were laid
+-- a part laid behind what stands in front
+pub laid_on : (front rest part words next : List ℕ) (from p : ℕ) → words ≡ front ++ rest → length front ≡ from
+    → next ≡ take from words ++ (part ++ drop (from + p) words) → next ≡ (front ++ part) ++ drop p rest
+laid_on front rest part words next from p was f is =
+    let a : take from words ≡ front = ap (take from) was ∙ take_at front rest from f in
+    let b : drop (from + p) words ≡ drop p rest = sym (drop-drop p from words) ∙ ap (drop p) (ap (drop from) was ∙ drop_at front rest from f) in
+    is ∙ (λ i. a i ++ (part ++ b i)) ∙ sym (append_assoc front part (drop p rest))
+
+-- one more part behind those that were laid from a place on
 pub laid_next : (from n m : ℕ) (words before part now next : List ℕ) → length before ≡ n → from + (n + m) ≤ length words
     → now ≡ take from words ++ (before ++ drop (from + n) words) → next ≡ take (from + n) now ++ (part ++ drop (from + n + m) now)
     → next ≡ take from words ++ ((before ++ part) ++ drop (from + (n + m)) words)
 laid_next from n m words before part now next e l was is =
     let front : List ℕ = take from words ++ before in
     let len : length front ≡ from + n = length-append (take from words) before ∙ (let a = length-take-le from words (omega arith) in omega arith) in
-    let split : now ≡ front ++ drop (from + n) words = was ∙ sym (append_assoc (take from words) before (drop (from + n) words)) in
-    let a : take (from + n) now ≡ front = ap (take (from + n)) split ∙ take_at front (drop (from + n) words) (from + n) len in
-    let b : drop (from + n + m) now ≡ drop (from + (n + m)) words =
-    sym (drop-drop m (from + n) now) ∙ ap (drop m) (ap (drop (from + n)) split ∙ drop_at front (drop (from + n) words) (from + n) len) ∙ drop-drop m (from + n) words ∙ ap (λ k. drop k words) (omega arith) in
-    is ∙ (λ i. a i ++ (part ++ b i)) ∙ append_assoc (take from words) before (part ++ drop (from + (n + m)) words)
+    let b : drop m (drop (from + n) words) ≡ drop (from + (n + m)) words = drop-drop m (from + n) words ∙ ap (λ k. drop k words) (omega arith) in
+    laid_on front (drop (from + n) words) part now next (from + n) m (was ∙ sym (append_assoc (take from words) before (drop (from + n) words))) len is
+    ∙ (λ i. (front ++ part) ++ b i) ∙ append_assoc front part (drop (from + (n + m)) words) ∙ append_assoc (take from words) before (part ++ drop (from + (n + m)) words)
     ∙ ap (λ (x : List ℕ). take from words ++ x) (sym (append_assoc before part (drop (from + (n + m)) words)))
 
 -- one more thing behind those that were laid

@@ -28,8 +28,8 @@ impl<'a, const N: usize> Copies<'a, N> {
         Copies { numbers }
     }
 
-    /// Word k as two of its three copies have it.
-    pub fn word(&self, k: usize) -> u64
+    // Word k as two of its three copies have it.
+    fn word(&self, k: usize) -> u64
         requires { k < N }
         ensures { result ≡ voted N self.now.numbers.now k }
     {

@@ -47,9 +47,12 @@ abbrev pub refused_for : Option Lent → Result (Unit {0}) Refusal
 refused_for None = Ok tt
 refused_for (Some lent) = Err (Length lent)
 
--- what a tick makes of the memory as it is read
+-- what a tick makes of the state that words say, and of the memory as it is read
+abbrev pub tick_of_words : (words readings frame : List ℕ) → State
+tick_of_words words readings frame = ticked (record { readings = readings; frame = frame }) (state_of words)
+
 abbrev pub tick_of : (memory readings frame : List ℕ) → State
-tick_of memory readings frame = ticked (record { readings = readings; frame = frame }) (state_of (voted_words word_count memory))
+tick_of memory readings frame = tick_of_words (voted_words word_count memory) readings frame
 
 abbrev pub Says : Result (Unit {0}) Refusal → (memory readings frame report memory₁ report₁ : List ℕ) → Type 0
 Says (Ok u) m r f t m₁ t₁ =

@@ -4,12 +4,11 @@
 
 ghost use Rattle.std.specs.Prelude.{◌≡◌, ◌≤◌, length, slice_index, Some, None, Err, MatchResult};
 ghost use Rattle.memory.specs.Threefold.{thrice};
-ghost use Rattle.satellite.specs.Story.{ticked};
 ghost use Rattle.satellite.specs.Fit.{Fit};
 ghost use Rattle.satellite.specs.Model.{model};
 ghost use Rattle.layout.specs.Map.{words_of, state_of};
 ghost use Rattle.telemetry.specs.Reports.{report_of, numbers_of};
-ghost use Rattle.onboard.specs.Entry.{refusal_number, refusal_place, refusal_text, wrong_length, refused_for, Says, GoesOn, Launches};
+ghost use Rattle.onboard.specs.Entry.{refusal_number, refusal_place, refusal_text, wrong_length, refused_for, tick_of_words, Says, GoesOn, Launches};
 
 use layout::{WORDS, fault};
 use memory::{Copies, repeat};
@@ -78,7 +77,7 @@ pub fn launch(memory: &mut [u64]) -> Result<(), Refusal>
     if memory.len() != 3 * WORDS {
         return Err(Refusal::Length(Lent::Memory));
     }
-    keep(memory, &Satellite::at_launch());
+    write_back(memory, &Satellite::at_launch());
     Ok(())
 }
 
@@ -99,12 +98,12 @@ pub fn tick(
     if let Some(word) = fault(&words) {
         return Err(Refusal::Unfit { word });
     }
-    fly(memory, &words, readings, frame, report);
+    advance(memory, &words, readings, frame, report);
     Ok(())
 }
 
 // The tick of words that say a satellite. By itself, so that the compiler sees each copy of a satellite close to what makes it.
-fn fly(
+fn advance(
     memory: &mut [u64],
     words: &[u64; 294],
     readings: &[u16; 16],
@@ -115,16 +114,16 @@ fn fly(
     requires told { length report.old ≡ 8 }
     requires few { slice_index words.now 69 ≤ 32 }
     requires fit { Fit (state_of words.now) }
-    ensures kept { memory.new ≡ thrice (words_of (ticked (record { readings = readings.now; frame = frame.now }) (state_of words.now))) }
-    ensures told { report.new ≡ numbers_of (report_of (ticked (record { readings = readings.now; frame = frame.now }) (state_of words.now))) }
+    ensures kept { memory.new ≡ thrice (words_of (tick_of_words words.now readings.now frame.now)) }
+    ensures told { report.new ≡ numbers_of (report_of (tick_of_words words.now readings.now frame.now)) }
 {
     let satellite = layout::satellite(words).tick(readings, frame);
-    keep(memory, &satellite);
+    write_back(memory, &satellite);
     report.copy_from_slice(&Telemetry::from(&satellite).numbers());
 }
 
 // Writes the words of a satellite three times. (There always is a first copy: the `requires` says so.)
-fn keep(memory: &mut [u64], satellite: &Satellite)
+fn write_back(memory: &mut [u64], satellite: &Satellite)
     requires { length memory.old ≡ 882 }
     ensures { memory.new ≡ thrice (words_of (model satellite.now)) }
 {

@@ -1,7 +1,6 @@
 -- The steps of a tick, one after the other, are the tick.
-use Rattle.std.proofs.Common.{◌≡◌, ◌≤◌, Option, sym, ap, ◌∙◌, subst}
+use Rattle.std.proofs.Common.{◌≡◌, ◌≤◌, sym, ap, ◌∙◌, subst}
 use Rattle.schedule.specs.Waiting.{Placed}
-use Rattle.frame.specs.declared.Telecommand.{Telecommand}
 use Rattle.frame.specs.Frame.{decoded}
 use Rattle.satellite.specs.State.{State, with_safe_mode, with_parameters, with_counts}
 use Rattle.satellite.specs.Fit.{Fit, most}
@@ -12,9 +11,9 @@ pub receiving : (i : Inputs) (s b w u : State) → b ≡ begun i.readings s → 
 unfolding at_reception at_release
 receiving i s b w u e d f = f ∙ ap released (d ∙ ap (watched 16) e)
 
-pub heeding : (i : Inputs) (s u : State) (o : Option Telecommand) → u ≡ at_reception i s → decoded i.frame ≡ o → heeded o u ≡ ticked i s
+pub heeding : (i : Inputs) (s u : State) → u ≡ at_reception i s → heeded (decoded i.frame) u ≡ ticked i s
 unfolding ticked
-heeding i s u o e d = λ j. heeded (sym d j) (e j)
+heeding i s u e = ap (heeded (decoded i.frame)) e
 
 -- what the later steps need of the state is as it was before the rules
 pub release_fit : (i : Inputs) (s b w : State) → b ≡ begun i.readings s → w ≡ watched 16 b → Fit s → Placed w.schedule × (w.missed ≤ most)

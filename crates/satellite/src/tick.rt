@@ -41,8 +41,8 @@ impl Satellite {
     // Each step takes the satellite and gives it back. What it changes it changes in place, in a function that is not
     // inlined: so the compiler sees that all steps can have the satellite in one place, and copies nothing (bench/README.md).
 
-    /// Time goes on by one, and the first sixteen parameters are what the instruments read.
-    pub fn begin(mut self, readings: &[u16; 16]) -> Satellite
+    // Time goes on by one, and the first sixteen parameters are what the instruments read.
+    fn begin(mut self, readings: &[u16; 16]) -> Satellite
         requires { self.time ≤ most }
         ensures { model result ≡ begun readings.now (model self) }
     {
@@ -51,8 +51,8 @@ impl Satellite {
         self
     }
 
-    /// The rules are looked at from 0 to 15, each after what the ones before it did.
-    pub fn watch(mut self) -> Satellite
+    // The rules are looked at from 0 to 15, each after what the ones before it did.
+    fn watch(mut self) -> Satellite
         requires { RulesFit (model self) }
         ensures { model result ≡ watched 16 (model self) }
     {
@@ -88,8 +88,8 @@ impl Satellite {
         }
     }
 
-    /// For how many ticks a rule has been past its limit, with this one.
-    pub fn look(&self, k: usize) -> u64
+    // For how many ticks a rule has been past its limit, with this one.
+    fn look(&self, k: usize) -> u64
         requires inside { k < 16 }
         requires watches { (rule (model self.now) k).watches < 64 }
         requires counted { count (model self.now) k ≤ most }
@@ -111,8 +111,8 @@ impl Satellite {
         }
     }
 
-    /// The activities whose time it is put their numbers, or are missed in safe mode.
-    pub fn release(mut self) -> Satellite
+    // The activities whose time it is put their numbers, or are missed in safe mode.
+    fn release(mut self) -> Satellite
         requires placed { Placed (waiting self.schedule) }
         requires low_missed { self.missed ≤ most }
         ensures { model result ≡ released (model self) }
@@ -123,8 +123,8 @@ impl Satellite {
         self
     }
 
-    /// The command of the frame that came up is obeyed, if the frame is whole.
-    pub fn hear(mut self, frame: &[u64]) -> Satellite
+    // The command of the frame that came up is obeyed, if the frame is whole.
+    fn hear(mut self, frame: &[u64]) -> Satellite
         requires low_expected { self.expected ≤ most }
         requires low_rejected { self.rejected ≤ most }
         ensures { model result ≡ heeded (decoded frame.now) (model self) }

@@ -7,5 +7,5 @@ mod release;
 mod waiting;
 
 pub use activity::Activity;
-pub use release::{NO_ACTIVITY, ROOM};
+pub use release::ROOM;
 pub use waiting::Schedule;

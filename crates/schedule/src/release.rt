@@ -8,8 +8,8 @@ use parameters::Parameters;
 /// How many activities can wait.
 pub const ROOM: usize = 32;
 
-/// Stands where no activity waits.
-pub const NO_ACTIVITY: Activity = Activity {
+// Stands where no activity waits.
+const NO_ACTIVITY: Activity = Activity {
     release: 0,
     place: 0,
     number: 0,

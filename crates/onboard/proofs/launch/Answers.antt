@@ -7,5 +7,5 @@ use Rattle.onboard.proofs.launch.Goals as goal
 
 pub returns : goal.returns
 returns c =
-    let e : c.keep.new.memory ≡ thrice (words_of at_launch) = c.keep.ensures ∙ ap (λ (s : State). thrice (words_of s)) c.at_launch.ensures in
-    (omega arith, e, launch_flies c.keep.new.memory e)
+    let e : c.write_back.new.memory ≡ thrice (words_of at_launch) = c.write_back.ensures ∙ ap (λ (s : State). thrice (words_of s)) c.at_launch.ensures in
+    (omega arith, e, launch_flies c.write_back.new.memory e)

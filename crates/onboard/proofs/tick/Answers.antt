@@ -8,8 +8,8 @@ use Rattle.telemetry.specs.Reports.{report_of, numbers_of}
 use Rattle.onboard.proofs.Entering.{fit_of, entered, ticked_says}
 use Rattle.onboard.proofs.tick.Goals as goal
 
-pub fly-requires-clause-fit : goal.fly-requires-clause-fit
-fly-requires-clause-fit c = fit_of c.read.new.words c.in_default.ensures
+pub advance-requires-clause-fit : goal.advance-requires-clause-fit
+advance-requires-clause-fit c = fit_of c.read.new.words c.in_default.ensures
 
 pub returns-in-Some : goal.returns-in-Some
 returns-in-Some c =
@@ -23,4 +23,4 @@ returns c =
     entered _ _ _ _ _ _ _ c.type_inv.readings
     (ticked_says _ _ _ _ _ _ c.read.new.words after (c.in_ok-readings.ensures.1)
     (c.read.ensures ∙ ap (voted_words word_count) c.new.ensures) c.in_default.ensures refl
-    (c.fly.ensures.kept ∙ ap (λ (s : State). thrice (words_of s)) same) (c.fly.ensures.told ∙ ap (λ (s : State). numbers_of (report_of s)) same))
+    (c.advance.ensures.kept ∙ ap (λ (s : State). thrice (words_of s)) same) (c.advance.ensures.told ∙ ap (λ (s : State). numbers_of (report_of s)) same))

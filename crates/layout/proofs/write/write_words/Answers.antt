@@ -26,7 +26,7 @@ returns c =
     let counts : c.from_fn-counts.result ≡ counts_of s.rules =
     made_of _ count_of _ c.from_fn-counts.result none 0 s.rules.watches 16 sixteen (λ k y q e. search rules) c.from_fn-counts.ensures.items in
     assembled (model s) c.args.words.now c.lay.new.words c.lay-2.new.words c.lay-3.new.words c.lay-4.new.words c.lay_activities.new.words c.lay_rules.new.words c.lay-5.new.words
-    (omega arith) c.lay-2.ensures.long few (length-map s.rules.watches rule_of ∙ sixteen) (length-map s.rules.watches count_of ∙ sixteen)
+    (omega arith) c.lay-2.ensures.long few (length-map s.rules.watches rule_of ∙ sixteen)
     (c.lay.ensures.laid ∙ ap (λ m. take 0 c.args.words.now ++ ((s.time ∷ (s.expected ∷ (m ∷ (s.rejected ∷ (s.missed ∷ []))))) ++ drop 5 c.args.words.now)) (c.from.ensures ∙ as_bit s.safe_mode))
     c.lay-2.ensures.laid
     (c.lay-3.ensures.laid ∙ ap (λ k. take 69 c.lay-2.new.words ++ ((k ∷ []) ++ drop 70 c.lay-2.new.words)) c.len.ensures)

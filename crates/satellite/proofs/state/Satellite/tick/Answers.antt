@@ -1,5 +1,4 @@
-use Rattle.std.proofs.Common.{refl, ◌∙◌}
-use Rattle.frame.specs.Frame.{decoded}
+use Rattle.std.proofs.Common.{◌∙◌}
 use Rattle.satellite.specs.Story.{Inputs}
 use Rattle.satellite.specs.Model.{model}
 use Rattle.satellite.proofs.Ticking.{receiving, heeding, release_fit, obey_fit}
@@ -19,5 +18,5 @@ hear-requires c =
 pub returns : goal.returns
 returns c =
     let i : Inputs = record { readings = c.args.readings.now; frame = c.args.frame.now } in
-    c.hear.ensures ∙ heeding i (model c.args.self) (model c.release.result) (decoded i.frame)
-    (receiving i (model c.args.self) (model c.begin.result) (model c.watch.result) (model c.release.result) c.begin.ensures c.watch.ensures c.release.ensures) refl
+    c.hear.ensures ∙ heeding i (model c.args.self) (model c.release.result)
+    (receiving i (model c.args.self) (model c.begin.result) (model c.watch.result) (model c.release.result) c.begin.ensures c.watch.ensures c.release.ensures)

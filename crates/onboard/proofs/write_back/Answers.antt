@@ -1,8 +1,8 @@
 use Rattle.std.proofs.Common.{length, take, drop, ap, ◌∙◌, arith, length-append}
 use Rattle.std.proofs.lemmas.List.{take_at, length-drop}
 use Rattle.memory.specs.Threefold.{thrice}
-use Rattle.onboard.proofs.keep.Goals as goal
-use Rattle.onboard.proofs.keep.Goals.{in-Some, in_default}
+use Rattle.onboard.proofs.write_back.Goals as goal
+use Rattle.onboard.proofs.write_back.Goals.{in-Some, in_default}
 
 pub returns : goal.returns
 returns c =
