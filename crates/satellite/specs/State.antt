@@ -26,31 +26,31 @@ pub record State : Type 0 where
 
 -- one part is another, the others stay
 abbrev pub with_time : ℕ → State → State
-with_time x s = record { time = x; expected = s.expected; safe_mode = s.safe_mode; rejected = s.rejected; missed = s.missed; parameters = s.parameters; schedule = s.schedule; rules = s.rules; counts = s.counts }
+with_time x s = record s { time = x }
 
 abbrev pub with_expected : ℕ → State → State
-with_expected x s = record { time = s.time; expected = x; safe_mode = s.safe_mode; rejected = s.rejected; missed = s.missed; parameters = s.parameters; schedule = s.schedule; rules = s.rules; counts = s.counts }
+with_expected x s = record s { expected = x }
 
 abbrev pub with_safe_mode : Bool → State → State
-with_safe_mode x s = record { time = s.time; expected = s.expected; safe_mode = x; rejected = s.rejected; missed = s.missed; parameters = s.parameters; schedule = s.schedule; rules = s.rules; counts = s.counts }
+with_safe_mode x s = record s { safe_mode = x }
 
 abbrev pub with_rejected : ℕ → State → State
-with_rejected x s = record { time = s.time; expected = s.expected; safe_mode = s.safe_mode; rejected = x; missed = s.missed; parameters = s.parameters; schedule = s.schedule; rules = s.rules; counts = s.counts }
+with_rejected x s = record s { rejected = x }
 
 abbrev pub with_missed : ℕ → State → State
-with_missed x s = record { time = s.time; expected = s.expected; safe_mode = s.safe_mode; rejected = s.rejected; missed = x; parameters = s.parameters; schedule = s.schedule; rules = s.rules; counts = s.counts }
+with_missed x s = record s { missed = x }
 
 abbrev pub with_parameters : List ℕ → State → State
-with_parameters x s = record { time = s.time; expected = s.expected; safe_mode = s.safe_mode; rejected = s.rejected; missed = s.missed; parameters = x; schedule = s.schedule; rules = s.rules; counts = s.counts }
+with_parameters x s = record s { parameters = x }
 
 abbrev pub with_schedule : List Activity → State → State
-with_schedule x s = record { time = s.time; expected = s.expected; safe_mode = s.safe_mode; rejected = s.rejected; missed = s.missed; parameters = s.parameters; schedule = x; rules = s.rules; counts = s.counts }
+with_schedule x s = record s { schedule = x }
 
 abbrev pub with_rules : List Rule → State → State
-with_rules x s = record { time = s.time; expected = s.expected; safe_mode = s.safe_mode; rejected = s.rejected; missed = s.missed; parameters = s.parameters; schedule = s.schedule; rules = x; counts = s.counts }
+with_rules x s = record s { rules = x }
 
 abbrev pub with_counts : List ℕ → State → State
-with_counts x s = record { time = s.time; expected = s.expected; safe_mode = s.safe_mode; rejected = s.rejected; missed = s.missed; parameters = s.parameters; schedule = s.schedule; rules = s.rules; counts = x }
+with_counts x s = record s { counts = x }
 
 -- the parameter at a place, a rule, and its count
 abbrev pub parameter : State → ℕ → ℕ
