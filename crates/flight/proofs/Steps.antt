@@ -1,9 +1,10 @@
 -- The cases of each step of a tick, so that no later proof looks into a step.
-use Rattle.std.proofs.Common.{◌≡◌, ℕ, suc, ◌+◌, ◌-◌, ◌<◌, ◌≤◌, true, false, cond, eqb, List, length, get_or, drop, set, Some, None, Option, sym, refl, ap, ◌∙◌, subst, arith}
+use Rattle.std.proofs.Common.{◌≡◌, ℕ, suc, ◌+◌, ◌-◌, ◌<◌, ◌≤◌, Bool, true, false, cond, eqb, List, [], ◌∷◌, length, get_or, drop, set, Some, None, Option, sym, refl, ap, ◌∙◌, subst, arith}
 use Rattle.std.proofs.lemmas.Bool.{eqb-true, eqb-false, cond_both}
 use Rattle.std.proofs.lemmas.List.{get_or_append_left, get_or-append_right, get_or-drop}
 use Rattle.schedule.specs.declared.activity.Activity.{Activity}
-use Rattle.schedule.specs.Waiting.{due, still_waiting, put_all}
+use Rattle.schedule.specs.declared.activity.Fate.TheVariants.{Waits, Missed, Done}
+use Rattle.schedule.specs.Waiting.{due, still_waiting, fate_of, fated, is_waiting, is_missed, is_done, put_all}
 use Rattle.rules.specs.Watching.{acts}
 use Rattle.frame.specs.declared.Telecommand.{Telecommand}
 use Rattle.satellite.specs.State.{State, with_time, with_safe_mode, with_parameters, with_counts, parameter, rule}
@@ -82,6 +83,53 @@ release_kept i s = watched_kept 16 (begun i.readings s)
 abbrev pub due_now : State → List Activity
 due_now s = due (suc s.time) s.schedule
 
+-- those that wait on, are missed and are done, by their time and safe mode
+pub waiting_are : (t : ℕ) (safe : Bool) (xs : List Activity) → fated is_waiting (λ a. fate_of a t safe) xs ≡ still_waiting t xs
+waiting_are t safe [] = refl
+waiting_are t safe (a ∷ xs) = go (eqb a.release t) safe (waiting_are t safe xs)
+  where
+    go : (b c : Bool) → fated is_waiting (λ a. fate_of a t safe) xs ≡ still_waiting t xs
+        → cond (is_waiting (cond b (cond c Missed Done) Waits)) (a ∷ fated is_waiting (λ a. fate_of a t safe) xs) (fated is_waiting (λ a. fate_of a t safe) xs) ≡ cond b (still_waiting t xs) (a ∷ still_waiting t xs)
+    go true true e = e
+    go true false e = e
+    go false c e = ap (λ (l : List Activity). a ∷ l) e
+
+pub missed_are : (t : ℕ) (safe : Bool) (xs : List Activity) → fated is_missed (λ a. fate_of a t safe) xs ≡ cond safe (due t xs) []
+missed_are t true [] = refl
+missed_are t false [] = refl
+missed_are t true (a ∷ xs) = go (eqb a.release t) (missed_are t true xs)
+  where
+    go : (b : Bool) → fated is_missed (λ a. fate_of a t true) xs ≡ due t xs → cond (is_missed (cond b Missed Waits)) (a ∷ fated is_missed (λ a. fate_of a t true) xs) (fated is_missed (λ a. fate_of a t true) xs) ≡ cond b (a ∷ due t xs) (due t xs)
+    go true e = ap (λ (l : List Activity). a ∷ l) e
+    go false e = e
+missed_are t false (a ∷ xs) = go (eqb a.release t) (missed_are t false xs)
+  where
+    go : (b : Bool) → fated is_missed (λ a. fate_of a t false) xs ≡ [] → cond (is_missed (cond b Done Waits)) (a ∷ fated is_missed (λ a. fate_of a t false) xs) (fated is_missed (λ a. fate_of a t false) xs) ≡ []
+    go true e = e
+    go false e = e
+
+pub done_are : (t : ℕ) (safe : Bool) (xs : List Activity) → fated is_done (λ a. fate_of a t safe) xs ≡ cond safe [] (due t xs)
+done_are t true [] = refl
+done_are t false [] = refl
+done_are t false (a ∷ xs) = go (eqb a.release t) (done_are t false xs)
+  where
+    go : (b : Bool) → fated is_done (λ a. fate_of a t false) xs ≡ due t xs → cond (is_done (cond b Done Waits)) (a ∷ fated is_done (λ a. fate_of a t false) xs) (fated is_done (λ a. fate_of a t false) xs) ≡ cond b (a ∷ due t xs) (due t xs)
+    go true e = ap (λ (l : List Activity). a ∷ l) e
+    go false e = e
+done_are t true (a ∷ xs) = go (eqb a.release t) (done_are t true xs)
+  where
+    go : (b : Bool) → fated is_done (λ a. fate_of a t true) xs ≡ [] → cond (is_done (cond b Missed Waits)) (a ∷ fated is_done (λ a. fate_of a t true) xs) (fated is_done (λ a. fate_of a t true) xs) ≡ []
+    go true e = e
+    go false e = e
+
+pub cond_length : (b : Bool) (xs : List Activity) → length (cond b xs []) ≡ cond b (length xs) 0
+cond_length true xs = refl
+cond_length false xs = refl
+
+pub put_cond : (b : Bool) (xs : List Activity) (values : List ℕ) → put_all (cond b [] xs) values ≡ cond b values (put_all xs values)
+put_cond true xs values = refl
+put_cond false xs values = refl
+
 pub record Reception (i : Inputs) (s : State) : Type 0 where
   pub time : (at_reception i s).time ≡ suc s.time
   pub expected : (at_reception i s).expected ≡ s.expected
@@ -105,9 +153,9 @@ reception i s =
       rules = ap (λ (u : State). u.rules) k;
       safe_mode = refl;
       counts = refl;
-      schedule = ap (λ (u : State). still_waiting u.time u.schedule) k;
-      missed = ap (λ (u : State). u.missed + cond w.safe_mode (length (due u.time u.schedule)) 0) k;
-      parameters = ap (λ (u : State). cond w.safe_mode w.parameters (put_all (due u.time u.schedule) w.parameters)) k;
+      schedule = waiting_are w.time w.safe_mode w.schedule ∙ ap (λ (u : State). still_waiting u.time u.schedule) k;
+      missed = ap (λ n. w.missed + n) (ap length (missed_are w.time w.safe_mode w.schedule) ∙ cond_length w.safe_mode _) ∙ ap (λ (u : State). u.missed + cond w.safe_mode (length (due u.time u.schedule)) 0) k;
+      parameters = ap (λ (x : List Activity). put_all x w.parameters) (done_are w.time w.safe_mode w.schedule) ∙ put_cond w.safe_mode _ w.parameters ∙ ap (λ (u : State). cond w.safe_mode w.parameters (put_all (due u.time u.schedule) w.parameters)) k;
     }
 
 pub tick_keeps : TickKeeps

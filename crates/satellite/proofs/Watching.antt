@@ -29,14 +29,7 @@ rule_here s k = rule_of_watch s.rules.watches k
 
 -- a rule has another count
 abbrev pub recounted : Satellite → ℕ → ℕ → Satellite
-recounted s k n = record {
-  time = s.time;
-  expected = s.expected;
-  safe_mode = s.safe_mode;
-  rejected = s.rejected;
-  missed = s.missed;
-  parameters = s.parameters;
-  schedule = s.schedule;
+recounted s k n = record s {
   rules = record { watches = set s.rules.watches k (record { rule = (get_or s.rules.watches k unset).rule; count = n }) };
 }
 
@@ -44,17 +37,7 @@ pub recounted_is : (s : Satellite) (k n : ℕ) → model (recounted s k n) ≡ w
 recounted_is s k n =
     let w : Watch = record { rule = (get_or s.rules.watches k unset).rule; count = n } in
     let r : map rule_of (set s.rules.watches k w) ≡ map rule_of s.rules.watches = map-set_same rule_of s.rules.watches k w unset refl in
-    λ i. record {
-      time = s.time;
-      expected = s.expected;
-      safe_mode = s.safe_mode;
-      rejected = s.rejected;
-      missed = s.missed;
-      parameters = s.parameters.values;
-      schedule = waiting s.schedule;
-      rules = r i;
-      counts = map-set count_of s.rules.watches k w i;
-    }
+    λ i. record (model s) { rules = r i; counts = map-set count_of s.rules.watches k w i }
 
 acted_rules : (r : Rule) (s : State) → ((acted r s).rules ≡ s.rules) × ((acted r s).counts ≡ s.counts)
 acted_rules r s = cond_both r.safes _ _ (λ (u : State). (u.rules ≡ s.rules) × (u.counts ≡ s.counts)) (λ _. (refl, refl)) (λ _. (refl, refl))

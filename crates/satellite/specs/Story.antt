@@ -1,10 +1,11 @@
 -- What the satellite does in a tick, as steps from state to state.
 use Rattle.std.specs.Prelude.{ℕ, zero, suc, ◌+◌, Bool, true, false, cond, ◌&&◌, List, [], ◌∷◌, ◌++◌, length, Some, None, Option, ◌==◌, nat_lt, slice_set}
-use Rattle.schedule.specs.Waiting.{due, still_waiting, put_all}
+use Rattle.schedule.specs.declared.activity.Activity.{Activity}
+use Rattle.schedule.specs.declared.activity.Fate.{Fate}
+use Rattle.schedule.specs.Waiting.{fate_of, fated, is_waiting, is_missed, is_done, put_all}
 use Rattle.rules.specs.declared.rule.Rule.{Rule}
 use Rattle.rules.specs.Watching.{next_count, acts, may_set}
 use Rattle.frame.specs.declared.Command.{Command}
-use Rattle.frame.specs.declared.Command.TheVariants.{Put, Later, Forget, Sleep, Wake, SetRule, Unknown}
 use Rattle.frame.specs.declared.Telecommand.{Telecommand}
 use Rattle.frame.specs.Frame.{decoded}
 use Rattle.parameters.specs.Places.{may_put, read_in}
@@ -38,32 +39,36 @@ unfoldable pub watched : ℕ → State → State
 watched zero s = s
 watched (suc k) s = watched_one k (watched k s)
 
+-- what becomes of an activity in a state
+abbrev pub fate_in : State → Activity → Fate
+fate_in s a = fate_of a s.time s.safe_mode
+
 -- activities whose time it is put their numbers in their order, or in safe mode are counted as missed; either way they are gone
 abbrev pub released : State → State
 released s =
-    with_schedule (still_waiting s.time s.schedule)
-    (with_parameters (cond s.safe_mode s.parameters (put_all (due s.time s.schedule) s.parameters))
-    (with_missed (s.missed + cond s.safe_mode (length (due s.time s.schedule)) 0) s))
+    with_schedule (fated is_waiting (fate_in s) s.schedule)
+    (with_parameters (put_all (fated is_done (fate_in s) s.schedule) s.parameters)
+    (with_missed (s.missed + length (fated is_missed (fate_in s) s.schedule)) s))
 
 -- whether a command can be done now
 abbrev pub can : State → Command → Bool
-can s (Put place number) = may_put place
-can s (Later activity) = may_put activity.place && (nat_lt s.time activity.release && nat_lt (length s.schedule) 32)
-can s Forget = true
-can s Sleep = true
-can s Wake = true
-can s (SetRule index new) = nat_lt index 16 && may_set new
-can s (Unknown kind) = false
+can s (Command.Put place number) = may_put place
+can s (Command.Later activity) = may_put activity.place && (nat_lt s.time activity.release && nat_lt (length s.schedule) 32)
+can s Command.Forget = true
+can s Command.Sleep = true
+can s Command.Wake = true
+can s (Command.SetRule index new) = nat_lt index 16 && may_set new
+can s (Command.Unknown kind) = false
 
 -- what a command does that can be done
 abbrev pub done : State → Command → State
-done s (Put place number) = with_parameters (slice_set s.parameters place number) s
-done s (Later activity) = with_schedule (s.schedule ++ (activity ∷ [])) s
-done s Forget = with_schedule [] s
-done s Sleep = with_safe_mode true s
-done s Wake = with_safe_mode false s
-done s (SetRule index new) = with_rules (slice_set s.rules index new) (with_counts (slice_set s.counts index 0) s)
-done s (Unknown kind) = s
+done s (Command.Put place number) = with_parameters (slice_set s.parameters place number) s
+done s (Command.Later activity) = with_schedule (s.schedule ++ (activity ∷ [])) s
+done s Command.Forget = with_schedule [] s
+done s Command.Sleep = with_safe_mode true s
+done s Command.Wake = with_safe_mode false s
+done s (Command.SetRule index new) = with_rules (slice_set s.rules index new) (with_counts (slice_set s.counts index 0) s)
+done s (Command.Unknown kind) = s
 
 abbrev pub rejecting : State → State
 rejecting s = with_rejected (suc s.rejected) s

@@ -1,5 +1,5 @@
 -- Activities that wait for their time, in the order in which they came.
-use Rattle.std.specs.Prelude.{◌≡◌, ℕ, ◌<◌, Bool, cond, List, [], ◌∷◌, length, get_or, take, ◌==◌, slice_set}
+use Rattle.std.specs.Prelude.{◌≡◌, ℕ, ◌<◌, Bool, true, false, cond, List, [], ◌∷◌, length, get_or, take, ◌==◌, slice_set}
 use Rattle.schedule.specs.declared.activity.Activity.{Activity}
 use Rattle.schedule.specs.declared.activity.Fate.{Fate}
 use Rattle.schedule.specs.declared.activity.Fate.TheVariants.{Waits, Missed, Done}
@@ -22,16 +22,39 @@ abbrev pub still_waiting : ℕ → List Activity → List Activity
 still_waiting now [] = []
 still_waiting now (a ∷ xs) = cond (a.release == now) (still_waiting now xs) (a ∷ still_waiting now xs)
 
--- it is the time of none of them, or of one of them
-abbrev pub NoneDue : ℕ → List Activity → Type 0
-NoneDue now xs = (due now xs ≡ []) × (still_waiting now xs ≡ xs)
-
-abbrev pub SomeDue : ℕ → List Activity → Type 0
-SomeDue now xs = (k : ℕ) × ((k < length xs) × ((get_or xs k no_activity).release ≡ now))
-
 -- what becomes of an activity in a tick, in safe mode or not
 abbrev pub fate_of : Activity → ℕ → Bool → Fate
 fate_of a now safe = cond (a.release == now) (cond safe Missed Done) Waits
+
+-- those of a fate, in their order
+abbrev pub is_waiting : Fate → Bool
+is_waiting Waits = true
+is_waiting Missed = false
+is_waiting Done = false
+
+abbrev pub is_missed : Fate → Bool
+is_missed Waits = false
+is_missed Missed = true
+is_missed Done = false
+
+abbrev pub is_done : Fate → Bool
+is_done Waits = false
+is_done Missed = false
+is_done Done = true
+
+abbrev pub fated : (Fate → Bool) → (Activity → Fate) → List Activity → List Activity
+fated p f [] = []
+fated p f (a ∷ xs) = cond (p (f a)) (a ∷ fated p f xs) (fated p f xs)
+
+-- all of them wait on, or it is the time of one of them
+abbrev pub AllWait : (Activity → Fate) → List Activity → Type 0
+AllWait f xs = (fated is_waiting f xs ≡ xs) × (fated is_missed f xs ≡ []) × (fated is_done f xs ≡ [])
+
+abbrev pub NoneDue : ℕ → List Activity → Type 0
+NoneDue now xs = (safe : Bool) → AllWait (λ a. fate_of a now safe) xs
+
+abbrev pub SomeDue : ℕ → List Activity → Type 0
+SomeDue now xs = (k : ℕ) × ((k < length xs) × ((get_or xs k no_activity).release ≡ now))
 
 -- each puts its number at its place, one after the other
 abbrev pub put_all : List Activity → List ℕ → List ℕ

@@ -1,5 +1,5 @@
 ghost use Rattle.std.specs.Prelude.{◌≡◌, ◌<◌, ◌≤◌, true, false, cond, [], ◌∷◌, ◌++◌, length, nat_le};
-ghost use Rattle.schedule.specs.Waiting.{waiting, due, still_waiting, put_all, fate_of, NoneDue, SomeDue, Placed};
+ghost use Rattle.schedule.specs.Waiting.{waiting, fated, is_waiting, is_missed, is_done, put_all, fate_of, NoneDue, SomeDue, Placed};
 
 use crate::activity::{Activity, Fate};
 use crate::waiting::Schedule;
@@ -78,9 +78,9 @@ impl Schedule {
     #[inline(never)]
     pub fn release(&mut self, time: u64, safe_mode: bool, parameters: &mut Parameters) -> u64
         requires { Placed (waiting self.old) }
-        ensures waiting { waiting self.new ≡ still_waiting time (waiting self.old) }
-        ensures put { parameters.new.values ≡ cond safe_mode parameters.old.values (put_all (due time (waiting self.old)) parameters.old.values) }
-        ensures missed { result ≡ cond safe_mode (length (due time (waiting self.old))) 0 }
+        ensures waiting { waiting self.new ≡ fated is_waiting (λ a. fate_of a time safe_mode) (waiting self.old) }
+        ensures put { parameters.new.values ≡ put_all (fated is_done (λ a. fate_of a time safe_mode) (waiting self.old)) parameters.old.values }
+        ensures missed { result ≡ length (fated is_missed (λ a. fate_of a time safe_mode) (waiting self.old)) }
         ensures few { result ≤ 32 }
     {
         // Mostly nothing is due, which is found out sooner than it is done.
