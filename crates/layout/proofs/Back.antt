@@ -7,7 +7,7 @@ use Rattle.schedule.specs.Waiting.{no_activity}
 use Rattle.rules.specs.declared.rule.Rule.{Rule}
 use Rattle.rules.specs.Watching.{off}
 use Rattle.satellite.specs.State.{State, rule}
-use Rattle.layout.specs.Map.{bit, words_of, activity_at, rule_at, schedule_in, rules_in, state_of, Sized, ReadsBack}
+use Rattle.layout.specs.Map.{bit, words_of, activity_at, rule_at, schedule_in, rules_in, state_of, Sized, ReadsBack, activity_size, rule_size, activities_at, rules_at}
 use Rattle.layout.proofs.Places.{length_words, parameter_words, waiting_word, activity_word, rule_word, count_words}
 
 bit_back : (b : Bool) → eqb (bit b) 1 ≡ b
@@ -26,24 +26,24 @@ activity_back : (s : State) → Sized s → (k : ℕ) → k < length s.schedule 
 activity_back s z k l =
     let w = words_of s in
     let a : Activity = get_or s.schedule k no_activity in
-    let e : get_or w (70 + 3 * k) 0 ≡ a.release = at w (70 + (3 * k + 0)) (70 + 3 * k) a.release (omega arith) (activity_word s z k 0 l (omega arith)) in
-    let f : get_or w (71 + 3 * k) 0 ≡ a.place = at w (70 + (3 * k + 1)) (71 + 3 * k) a.place (omega arith) (activity_word s z k 1 l (omega arith)) in
-    let g : get_or w (72 + 3 * k) 0 ≡ a.number = at w (70 + (3 * k + 2)) (72 + 3 * k) a.number (omega arith) (activity_word s z k 2 l (omega arith)) in
+    let e : get_or w (activities_at + activity_size * k) 0 ≡ a.release = at w (activities_at + (activity_size * k + 0)) (activities_at + activity_size * k) a.release (omega arith) (activity_word s z k 0 l (omega arith)) in
+    let f : get_or w (activities_at + 1 + activity_size * k) 0 ≡ a.place = at w (activities_at + (activity_size * k + 1)) (activities_at + 1 + activity_size * k) a.place (omega arith) (activity_word s z k 1 l (omega arith)) in
+    let g : get_or w (activities_at + 2 + activity_size * k) 0 ≡ a.number = at w (activities_at + (activity_size * k + 2)) (activities_at + 2 + activity_size * k) a.number (omega arith) (activity_word s z k 2 l (omega arith)) in
     λ i. record { release = sym e i; place = sym f i; number = sym g i }
 
 rule_back : (s : State) → Sized s → (k : ℕ) → k < 16 → get_or s.rules k off ≡ rule_at (words_of s) k
 rule_back s z k l =
     let w = words_of s in
     let r : Rule = rule s k in
-    let a : get_or w (166 + 7 * k) 0 ≡ r.watches = at w (166 + (7 * k + 0)) (166 + 7 * k) r.watches (omega arith) (rule_word s z k 0 l (omega arith)) in
-    let b : get_or w (167 + 7 * k) 0 ≡ r.limit = at w (166 + (7 * k + 1)) (167 + 7 * k) r.limit (omega arith) (rule_word s z k 1 l (omega arith)) in
-    let c : get_or w (168 + 7 * k) 0 ≡ bit r.upward = at w (166 + (7 * k + 2)) (168 + 7 * k) (bit r.upward) (omega arith) (rule_word s z k 2 l (omega arith)) in
-    let d : get_or w (169 + 7 * k) 0 ≡ r.needs = at w (166 + (7 * k + 3)) (169 + 7 * k) r.needs (omega arith) (rule_word s z k 3 l (omega arith)) in
-    let e : get_or w (170 + 7 * k) 0 ≡ bit r.safes = at w (166 + (7 * k + 4)) (170 + 7 * k) (bit r.safes) (omega arith) (rule_word s z k 4 l (omega arith)) in
-    let f : get_or w (171 + 7 * k) 0 ≡ r.place = at w (166 + (7 * k + 5)) (171 + 7 * k) r.place (omega arith) (rule_word s z k 5 l (omega arith)) in
-    let g : get_or w (172 + 7 * k) 0 ≡ r.number = at w (166 + (7 * k + 6)) (172 + 7 * k) r.number (omega arith) (rule_word s z k 6 l (omega arith)) in
-    let u : eqb (get_or w (168 + 7 * k) 0) 1 ≡ r.upward = ap (λ n. eqb n 1) c ∙ bit_back r.upward in
-    let v : eqb (get_or w (170 + 7 * k) 0) 1 ≡ r.safes = ap (λ n. eqb n 1) e ∙ bit_back r.safes in
+    let a : get_or w (rules_at + rule_size * k) 0 ≡ r.watches = at w (rules_at + (rule_size * k + 0)) (rules_at + rule_size * k) r.watches (omega arith) (rule_word s z k 0 l (omega arith)) in
+    let b : get_or w (rules_at + 1 + rule_size * k) 0 ≡ r.limit = at w (rules_at + (rule_size * k + 1)) (rules_at + 1 + rule_size * k) r.limit (omega arith) (rule_word s z k 1 l (omega arith)) in
+    let c : get_or w (rules_at + 2 + rule_size * k) 0 ≡ bit r.upward = at w (rules_at + (rule_size * k + 2)) (rules_at + 2 + rule_size * k) (bit r.upward) (omega arith) (rule_word s z k 2 l (omega arith)) in
+    let d : get_or w (rules_at + 3 + rule_size * k) 0 ≡ r.needs = at w (rules_at + (rule_size * k + 3)) (rules_at + 3 + rule_size * k) r.needs (omega arith) (rule_word s z k 3 l (omega arith)) in
+    let e : get_or w (rules_at + 4 + rule_size * k) 0 ≡ bit r.safes = at w (rules_at + (rule_size * k + 4)) (rules_at + 4 + rule_size * k) (bit r.safes) (omega arith) (rule_word s z k 4 l (omega arith)) in
+    let f : get_or w (rules_at + 5 + rule_size * k) 0 ≡ r.place = at w (rules_at + (rule_size * k + 5)) (rules_at + 5 + rule_size * k) r.place (omega arith) (rule_word s z k 5 l (omega arith)) in
+    let g : get_or w (rules_at + 6 + rule_size * k) 0 ≡ r.number = at w (rules_at + (rule_size * k + 6)) (rules_at + 6 + rule_size * k) r.number (omega arith) (rule_word s z k 6 l (omega arith)) in
+    let u : eqb (get_or w (rules_at + 2 + rule_size * k) 0) 1 ≡ r.upward = ap (λ n. eqb n 1) c ∙ bit_back r.upward in
+    let v : eqb (get_or w (rules_at + 4 + rule_size * k) 0) 1 ≡ r.safes = ap (λ n. eqb n 1) e ∙ bit_back r.safes in
     λ i. record { watches = sym a i; limit = sym b i; upward = sym u i; needs = sym d i; safes = sym v i; place = sym f i; number = sym g i }
 
 pub schedule_back : (s : State) → Sized s → schedule_in (words_of s) ≡ s.schedule

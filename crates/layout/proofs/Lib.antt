@@ -4,3 +4,4 @@ pub mod Writing
 pub mod Places
 pub mod Back
 pub mod Sanity
+pub mod Joined

@@ -9,21 +9,22 @@ use Rattle.std.proofs.lemmas.Bool.Decides.{nat_tests}
 use Rattle.std.proofs.lemmas.Bool.{lt-ltb, le-ltb, ltb-false, leb-false, ne_eqb, cases_lt, cases_eq, true≢false, and_left, and_right}
 use Rattle.parameters.specs.Places.{may_put}
 use Rattle.satellite.specs.Fit.{most}
+use Rattle.layout.specs.Map.{activity_size, rule_size, waiting_at, activities_at, rules_at, counts_at, word_count}
 use Rattle.layout.specs.Fault.{at_fault, Faultless, Lowest, Sane, FaultsRight}
 
 -- a word at its place in an activity or a rule
-activity_place : (ws : List ℕ) (k i j : ℕ) → j < 3 → k ≡ 70 + 3 * i + j → i < 32
-    → at_fault ws k ≡ cond (ltb most (get_or ws k 0)) true (ltb i (get_or ws 69 0) && cond (eqb j 0) (leb (get_or ws k 0) (get_or ws 0 0)) (eqb j 1 && not (may_put (get_or ws k 0))))
+activity_place : (ws : List ℕ) (k i j : ℕ) → j < activity_size → k ≡ activities_at + activity_size * i + j → i < 32
+    → at_fault ws k ≡ cond (ltb most (get_or ws k 0)) true (ltb i (get_or ws waiting_at 0) && cond (eqb j 0) (leb (get_or ws k 0) (get_or ws 0 0)) (eqb j 1 && not (may_put (get_or ws k 0))))
 activity_place ws k i j h e lt =
-    let q : (k - 70) / 3 ≡ i = omega arith in
-    let r : (k - 70) % 3 ≡ j = omega arith in
-    simp (ne_eqb k 69 (λ x. omega arith), le-ltb k 70 (omega arith), lt-ltb k 166 (omega arith), q, r)
+    let q : (k - activities_at) / activity_size ≡ i = omega arith in
+    let r : (k - activities_at) % activity_size ≡ j = omega arith in
+    simp (ne_eqb k waiting_at (λ x. omega arith), le-ltb k activities_at (omega arith), lt-ltb k rules_at (omega arith), q, r)
 
-rule_place : (ws : List ℕ) (k i j : ℕ) → j < 7 → k ≡ 166 + 7 * i + j → i < 16
+rule_place : (ws : List ℕ) (k i j : ℕ) → j < rule_size → k ≡ rules_at + rule_size * i + j → i < 16
     → at_fault ws k ≡ cond (ltb most (get_or ws k 0)) true (cond (eqb j 0) (leb 64 (get_or ws k 0)) (eqb j 5 && (leb 1 (get_or ws (k - 2) 0) && (not (eqb (get_or ws (k - 1) 0) 1) && not (may_put (get_or ws k 0))))))
 rule_place ws k i j h e lt =
-    let r : (k - 166) % 7 ≡ j = omega arith in
-    simp (ne_eqb k 69 (λ x. omega arith), le-ltb k 70 (omega arith), le-ltb k 166 (omega arith), lt-ltb k 278 (omega arith), r)
+    let r : (k - rules_at) % rule_size ≡ j = omega arith in
+    simp (ne_eqb k waiting_at (λ x. omega arith), le-ltb k activities_at (omega arith), le-ltb k rules_at (omega arith), lt-ltb k counts_at (omega arith), r)
 
 after_most : (x : ℕ) (b : Bool) → cond (ltb most x) true b ≡ false → (x ≤ most) × (b ≡ false)
 after_most x b e = grind (arith, nat_tests)
@@ -39,18 +40,18 @@ place_facts a b m e h = grind (arith, nat_tests)
 
 pub sane_of : (ws : List ℕ) → Faultless ws → Sane ws
 sane_of ws h =
-    let few : get_or ws 69 0 ≤ 32 = ltb-false 32 (get_or ws 69 0) (after_most (get_or ws 69 0) (ltb 32 (get_or ws 69 0)) (h 69 (omega arith))).1 in
+    let few : get_or ws waiting_at 0 ≤ 32 = ltb-false 32 (get_or ws waiting_at 0) (after_most (get_or ws waiting_at 0) (ltb 32 (get_or ws waiting_at 0)) (h waiting_at (omega arith))).1 in
     record {
       small = λ k lt. (after_most (get_or ws k 0) _ (h k lt)).0;
       few = few;
-      later = λ i lt. let p = after_most (get_or ws (70 + 3 * i) 0) _ (sym (activity_place ws (70 + 3 * i) i 0 (omega arith) (omega arith) (omega arith)) ∙ h (70 + 3 * i) (omega arith)) in time_facts i (get_or ws 69 0) (get_or ws (70 + 3 * i) 0) (get_or ws 0 0) p.1 lt;
-      placed = λ i lt. let p = after_most (get_or ws (71 + 3 * i) 0) _ (sym (activity_place ws (71 + 3 * i) i 1 (omega arith) (omega arith) (omega arith)) ∙ h (71 + 3 * i) (omega arith)) in place_facts i (get_or ws 69 0) (may_put (get_or ws (71 + 3 * i) 0)) p.1 lt;
-      watches = λ i lt. let p = after_most (get_or ws (166 + 7 * i) 0) _ (sym (rule_place ws (166 + 7 * i) i 0 (omega arith) (omega arith) lt) ∙ h (166 + 7 * i) (omega arith)) in leb-false 64 (get_or ws (166 + 7 * i) 0) p.1;
+      later = λ i lt. let p = after_most (get_or ws (activities_at + activity_size * i) 0) _ (sym (activity_place ws (activities_at + activity_size * i) i 0 (omega arith) (omega arith) (omega arith)) ∙ h (activities_at + activity_size * i) (omega arith)) in time_facts i (get_or ws waiting_at 0) (get_or ws (activities_at + activity_size * i) 0) (get_or ws 0 0) p.1 lt;
+      placed = λ i lt. let p = after_most (get_or ws (activities_at + 1 + activity_size * i) 0) _ (sym (activity_place ws (activities_at + 1 + activity_size * i) i 1 (omega arith) (omega arith) (omega arith)) ∙ h (activities_at + 1 + activity_size * i) (omega arith)) in place_facts i (get_or ws waiting_at 0) (may_put (get_or ws (activities_at + 1 + activity_size * i) 0)) p.1 lt;
+      watches = λ i lt. let p = after_most (get_or ws (rules_at + rule_size * i) 0) _ (sym (rule_place ws (rules_at + rule_size * i) i 0 (omega arith) (omega arith) lt) ∙ h (rules_at + rule_size * i) (omega arith)) in leb-false 64 (get_or ws (rules_at + rule_size * i) 0) p.1;
       puts = λ i lt.
-          let p = after_most (get_or ws (171 + 7 * i) 0) _ (sym (rule_place ws (171 + 7 * i) i 5 (omega arith) (omega arith) lt) ∙ h (171 + 7 * i) (omega arith)) in
-          let a : 171 + 7 * i - 2 ≡ 169 + 7 * i = omega arith in
-          let b : 171 + 7 * i - 1 ≡ 170 + 7 * i = omega arith in
-          rule_facts (get_or ws (169 + 7 * i) 0) (eqb (get_or ws (170 + 7 * i) 0) 1) (may_put (get_or ws (171 + 7 * i) 0)) (simp (a, b) at p.1);
+          let p = after_most (get_or ws (rules_at + 5 + rule_size * i) 0) _ (sym (rule_place ws (rules_at + 5 + rule_size * i) i 5 (omega arith) (omega arith) lt) ∙ h (rules_at + 5 + rule_size * i) (omega arith)) in
+          let a : rules_at + 5 + rule_size * i - 2 ≡ rules_at + 3 + rule_size * i = omega arith in
+          let b : rules_at + 5 + rule_size * i - 1 ≡ rules_at + 4 + rule_size * i = omega arith in
+          rule_facts (get_or ws (rules_at + 3 + rule_size * i) 0) (eqb (get_or ws (rules_at + 4 + rule_size * i) 0) 1) (may_put (get_or ws (rules_at + 5 + rule_size * i) 0)) (simp (a, b) at p.1);
     }
 
 activity_none : (a b j x t : ℕ) (m : Bool) → (a < b → j ≡ 0 → t < x) → (a < b → j ≡ 1 → m ≡ true) → (ltb a b && cond (eqb j 0) (leb x t) (eqb j 1 && not m)) ≡ false
@@ -68,25 +69,25 @@ below_most x b h e = grind (arith, nat_tests)
 pub faultless_of : (ws : List ℕ) → Sane ws → Faultless ws
 faultless_of ws f k lt =
     below_most (get_or ws k 0) _ (f.small k lt)
-    (⊎_elim (λ e. rw e (le-ltb 32 (get_or ws 69 0) f.few))
-    (λ ne. rw (ne_eqb k 69 ne) (⊎_elim (λ a. rw (lt-ltb k 70 a) refl)
-    (λ a. rw (le-ltb k 70 a) (⊎_elim
-    (λ b. rw (lt-ltb k 166 b) (activity_none ((k - 70) / 3) (get_or ws 69 0) ((k - 70) % 3) (get_or ws k 0) (get_or ws 0 0) (may_put (get_or ws k 0))
-    (λ i j. let s : 70 + 3 * ((k - 70) / 3) ≡ k = omega arith in rw s at (f.later ((k - 70) / 3) i))
-    (λ i j. let s : 71 + 3 * ((k - 70) / 3) ≡ k = omega arith in rw s at (f.placed ((k - 70) / 3) i))))
-    (λ b. rw (le-ltb k 166 b) (⊎_elim
-    (λ d. rw (lt-ltb k 278 d) (rule_none ((k - 166) % 7) (get_or ws k 0) (get_or ws (k - 2) 0) (eqb (get_or ws (k - 1) 0) 1) (may_put (get_or ws k 0))
-    (λ j. let s : 166 + 7 * ((k - 166) / 7) ≡ k = omega arith in rw s at (f.watches ((k - 166) / 7) (omega arith)))
-    (λ j. let s : 169 + 7 * ((k - 166) / 7) ≡ k - 2 = omega arith in let t : 170 + 7 * ((k - 166) / 7) ≡ k - 1 = omega arith in let u : 171 + 7 * ((k - 166) / 7) ≡ k = omega arith in
-    simp (s, t, u) at (f.puts ((k - 166) / 7) (omega arith)))))
-    (λ d. rw (le-ltb k 278 d) refl) (cases_lt k 278))) (cases_lt k 166))) (cases_lt k 70)))
-    (cases_eq k 69))
+    (⊎_elim (λ e. rw e (le-ltb 32 (get_or ws waiting_at 0) f.few))
+    (λ ne. rw (ne_eqb k waiting_at ne) (⊎_elim (λ a. rw (lt-ltb k activities_at a) refl)
+    (λ a. rw (le-ltb k activities_at a) (⊎_elim
+    (λ b. rw (lt-ltb k rules_at b) (activity_none ((k - activities_at) / activity_size) (get_or ws waiting_at 0) ((k - activities_at) % activity_size) (get_or ws k 0) (get_or ws 0 0) (may_put (get_or ws k 0))
+    (λ i j. let s : activities_at + activity_size * ((k - activities_at) / activity_size) ≡ k = omega arith in rw s at (f.later ((k - activities_at) / activity_size) i))
+    (λ i j. let s : activities_at + 1 + activity_size * ((k - activities_at) / activity_size) ≡ k = omega arith in rw s at (f.placed ((k - activities_at) / activity_size) i))))
+    (λ b. rw (le-ltb k rules_at b) (⊎_elim
+    (λ d. rw (lt-ltb k counts_at d) (rule_none ((k - rules_at) % rule_size) (get_or ws k 0) (get_or ws (k - 2) 0) (eqb (get_or ws (k - 1) 0) 1) (may_put (get_or ws k 0))
+    (λ j. let s : rules_at + rule_size * ((k - rules_at) / rule_size) ≡ k = omega arith in rw s at (f.watches ((k - rules_at) / rule_size) (omega arith)))
+    (λ j. let s : rules_at + 3 + rule_size * ((k - rules_at) / rule_size) ≡ k - 2 = omega arith in let t : rules_at + 4 + rule_size * ((k - rules_at) / rule_size) ≡ k - 1 = omega arith in let u : rules_at + 5 + rule_size * ((k - rules_at) / rule_size) ≡ k = omega arith in
+    simp (s, t, u) at (f.puts ((k - rules_at) / rule_size) (omega arith)))))
+    (λ d. rw (le-ltb k counts_at d) refl) (cases_lt k counts_at))) (cases_lt k rules_at))) (cases_lt k activities_at)))
+    (cases_eq k waiting_at))
 
 pub faults_right : FaultsRight
 faults_right = record { sound = sane_of; complete = faultless_of }
 
 -- the lowest number that is at fault, of those below the last
-pub lowest_of : (ws : List ℕ) (o : Option ℕ) → MatchOption o ((k : ℕ) → 0 ≤ k → k < 294 → at_fault ws k ≡ false) (λ i. (0 ≤ i) × (i < 294) × (at_fault ws i ≡ true) × ((k : ℕ) → 0 ≤ k → k < i → at_fault ws k ≡ false)) → Lowest ws o
+pub lowest_of : (ws : List ℕ) (o : Option ℕ) → MatchOption o ((k : ℕ) → 0 ≤ k → k < word_count → at_fault ws k ≡ false) (λ i. (0 ≤ i) × (i < word_count) × (at_fault ws i ≡ true) × ((k : ℕ) → 0 ≤ k → k < i → at_fault ws k ≡ false)) → Lowest ws o
 lowest_of ws None h = λ k lt. h k (omega arith) lt
 lowest_of ws (Some i) h = (h.1, h.2, λ k lt. h.3 k (omega arith) lt)
 

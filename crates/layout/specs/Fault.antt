@@ -2,27 +2,27 @@
 use Rattle.std.specs.Prelude.{◌≡◌, ℕ, ◌+◌, ◌-◌, ◌*◌, ◌/◌, ◌%◌, ◌<◌, ◌≤◌, Bool, true, false, cond, not, ◌&&◌, ◌⊎◌, List, Some, None, Option, ◌==◌, nat_le, nat_lt, slice_index, slice_index_or}
 use Rattle.parameters.specs.Places.{may_put}
 use Rattle.satellite.specs.Fit.{most}
-use Rattle.layout.specs.Map.{word_count}
+use Rattle.layout.specs.Map.{word_count, activity_size, rule_size, waiting_at, activities_at, rules_at, counts_at}
 
 -- of an activity that waits: its time is not after now, or its place may not be put
 abbrev pub activity_fault : List ℕ → ℕ → Bool
 activity_fault ws k =
-    nat_lt ((k - 70) / 3) (slice_index ws 69) && cond ((k - 70) % 3 == 0) (nat_le (slice_index ws k) (slice_index ws 0)) ((k - 70) % 3 == 1 && not (may_put (slice_index ws k)))
+    nat_lt ((k - activities_at) / activity_size) (slice_index ws waiting_at) && cond ((k - activities_at) % activity_size == 0) (nat_le (slice_index ws k) (slice_index ws 0)) ((k - activities_at) % activity_size == 1 && not (may_put (slice_index ws k)))
 
 -- of a rule: it watches no parameter, or it is on and puts where it may not
 abbrev pub rule_fault : List ℕ → ℕ → Bool
 rule_fault ws k =
-    cond ((k - 166) % 7 == 0) (nat_le 64 (slice_index ws k))
-    ((k - 166) % 7 == 5 && (nat_le 1 (slice_index ws (k - 2)) && (not (slice_index ws (k - 1) == 1) && not (may_put (slice_index ws k)))))
+    cond ((k - rules_at) % rule_size == 0) (nat_le 64 (slice_index ws k))
+    ((k - rules_at) % rule_size == 5 && (nat_le 1 (slice_index ws (k - 2)) && (not (slice_index ws (k - 1) == 1) && not (may_put (slice_index ws k)))))
 
 -- word k is at fault
 abbrev pub at_fault : List ℕ → ℕ → Bool
 at_fault ws k =
     cond (nat_lt most (slice_index ws k)) true
-    (cond (k == 69) (nat_lt 32 (slice_index ws 69))
-    (cond (nat_lt k 70) false
-    (cond (nat_lt k 166) (activity_fault ws k)
-    (cond (nat_lt k 278) (rule_fault ws k) false))))
+    (cond (k == waiting_at) (nat_lt 32 (slice_index ws waiting_at))
+    (cond (nat_lt k activities_at) false
+    (cond (nat_lt k rules_at) (activity_fault ws k)
+    (cond (nat_lt k counts_at) (rule_fault ws k) false))))
 
 abbrev pub Faultless : List ℕ → Type 0
 Faultless ws = (k : ℕ) → k < word_count → at_fault ws k ≡ false
@@ -38,22 +38,22 @@ abbrev pub Small : List ℕ → Type 0
 Small ws = (k : ℕ) → k < word_count → slice_index ws k ≤ most
 
 abbrev pub Later : List ℕ → ℕ → Type 0
-Later ws i = slice_index ws 0 < slice_index ws (70 + 3 * i)
+Later ws i = slice_index ws 0 < slice_index ws (activities_at + activity_size * i)
 
 abbrev pub Placed : List ℕ → ℕ → Type 0
-Placed ws i = may_put (slice_index ws (71 + 3 * i)) ≡ true
+Placed ws i = may_put (slice_index ws (activities_at + 1 + activity_size * i)) ≡ true
 
 abbrev pub Watches : List ℕ → ℕ → Type 0
-Watches ws i = slice_index ws (166 + 7 * i) < 64
+Watches ws i = slice_index ws (rules_at + rule_size * i) < 64
 
 abbrev pub Puts : List ℕ → ℕ → Type 0
-Puts ws i = (slice_index ws (169 + 7 * i) ≡ 0) ⊎ (((slice_index ws (170 + 7 * i) == 1) ≡ true) ⊎ (may_put (slice_index ws (171 + 7 * i)) ≡ true))
+Puts ws i = (slice_index ws (rules_at + 3 + rule_size * i) ≡ 0) ⊎ (((slice_index ws (rules_at + 4 + rule_size * i) == 1) ≡ true) ⊎ (may_put (slice_index ws (rules_at + 5 + rule_size * i)) ≡ true))
 
 pub record Sane (ws : List ℕ) : Type 0 where
   pub small : Small ws
-  pub few : slice_index_or ws 69 0 ≤ 32
-  pub later : (i : ℕ) → i < slice_index ws 69 → Later ws i
-  pub placed : (i : ℕ) → i < slice_index ws 69 → Placed ws i
+  pub few : slice_index_or ws waiting_at 0 ≤ 32
+  pub later : (i : ℕ) → i < slice_index ws waiting_at → Later ws i
+  pub placed : (i : ℕ) → i < slice_index ws waiting_at → Placed ws i
   pub watches : (i : ℕ) → i < 16 → Watches ws i
   pub puts : (i : ℕ) → i < 16 → Puts ws i
 

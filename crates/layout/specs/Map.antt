@@ -19,8 +19,33 @@ use Rattle.schedule.specs.Numbers.{activity_numbers}
 use Rattle.rules.specs.Numbers.{rule_numbers}
 use Rattle.satellite.specs.State.{State}
 
+-- how many words an activity and a rule take, and where each part begins: after the one before it
+abbrev pub activity_size : ℕ
+activity_size = 3
+
+abbrev pub rule_size : ℕ
+rule_size = 7
+
+abbrev pub waiting_at : ℕ
+waiting_at = 5 + 64
+
+abbrev pub activities_at : ℕ
+activities_at = waiting_at + 1
+
+abbrev pub activities_room : ℕ
+activities_room = activity_size * 32
+
+abbrev pub rules_at : ℕ
+rules_at = activities_at + activities_room
+
+abbrev pub rules_room : ℕ
+rules_room = rule_size * 16
+
+abbrev pub counts_at : ℕ
+counts_at = rules_at + rules_room
+
 abbrev pub word_count : ℕ
-word_count = 294
+word_count = counts_at + 16
 
 -- a mark is written as 0 or 1
 abbrev pub bit : Bool → ℕ
@@ -37,32 +62,43 @@ rule_words r = rule_numbers r
 
 -- activities one after the other, and noughts for those that could still come
 abbrev pub schedule_words : List Activity → List ℕ
-schedule_words xs = flat_map activity_words xs ++ replicate (96 - 3 * length xs) 0
+schedule_words xs = flat_map activity_words xs ++ replicate (activities_room - activity_size * length xs) 0
+
+-- the parts of memory, one after the other, and how long each is
+abbrev pub parts : State → List (List ℕ)
+parts s = head_words s ∷ (s.parameters ∷ ((length s.schedule ∷ []) ∷ (schedule_words s.schedule ∷ (flat_map rule_words s.rules ∷ (s.counts ∷ [])))))
+
+abbrev pub sizes : List ℕ
+sizes = 5 ∷ (64 ∷ (1 ∷ (activities_room ∷ (rules_room ∷ (16 ∷ [])))))
+
+abbrev pub joined : List (List ℕ) → List ℕ
+joined [] = []
+joined (p ∷ ps) = p ++ joined ps
 
 unfoldable pub words_of : State → List ℕ
-words_of s = head_words s ++ (s.parameters ++ ((length s.schedule ∷ []) ++ (schedule_words s.schedule ++ (flat_map rule_words s.rules ++ s.counts))))
+words_of s = joined (parts s)
 
 -- an activity, a rule, and what the words say of all of them
 abbrev pub activity_at : List ℕ → ℕ → Activity
-activity_at ws k = record { release = slice_index ws (70 + 3 * k); place = slice_index ws (71 + 3 * k); number = slice_index ws (72 + 3 * k) }
+activity_at ws k = record { release = slice_index ws (activities_at + activity_size * k); place = slice_index ws (activities_at + 1 + activity_size * k); number = slice_index ws (activities_at + 2 + activity_size * k) }
 
 abbrev pub rule_at : List ℕ → ℕ → Rule
 rule_at ws k = record {
-  watches = slice_index ws (166 + 7 * k);
-  limit = slice_index ws (167 + 7 * k);
-  upward = (slice_index ws (168 + 7 * k) == 1);
-  needs = slice_index ws (169 + 7 * k);
-  safes = (slice_index ws (170 + 7 * k) == 1);
-  place = slice_index ws (171 + 7 * k);
-  number = slice_index ws (172 + 7 * k);
+  watches = slice_index ws (rules_at + rule_size * k);
+  limit = slice_index ws (rules_at + 1 + rule_size * k);
+  upward = (slice_index ws (rules_at + 2 + rule_size * k) == 1);
+  needs = slice_index ws (rules_at + 3 + rule_size * k);
+  safes = (slice_index ws (rules_at + 4 + rule_size * k) == 1);
+  place = slice_index ws (rules_at + 5 + rule_size * k);
+  number = slice_index ws (rules_at + 6 + rule_size * k);
 }
 
 -- a rule beside its count
 abbrev pub watch_at : List ℕ → ℕ → Watch
-watch_at ws k = record { rule = rule_at ws k; count = slice_index ws (278 + k) }
+watch_at ws k = record { rule = rule_at ws k; count = slice_index ws (counts_at + k) }
 
 unfoldable pub schedule_in : List ℕ → List Activity
-schedule_in ws = map (activity_at ws) (range_with_len 0 (slice_index ws 69))
+schedule_in ws = map (activity_at ws) (range_with_len 0 (slice_index ws waiting_at))
 
 unfoldable pub rules_in : List ℕ → List Rule
 rules_in ws = map (rule_at ws) (range_with_len 0 16)
@@ -77,7 +113,7 @@ state_of ws = record {
   parameters = take 64 (drop 5 ws);
   schedule = schedule_in ws;
   rules = rules_in ws;
-  counts = take 16 (drop 278 ws);
+  counts = take 16 (drop counts_at ws);
 }
 
 -- the lists of a state have their room in memory

@@ -1,3 +1,4 @@
+ghost use Rattle.layout.specs.Map.{waiting_at, activities_at, rules_at, counts_at, word_count};
 ghost use Rattle.std.specs.Prelude.{◌≡◌, ℕ, ◌<◌, ◌≤◌, true, ◌⊎◌, slice_index};
 ghost use Rattle.parameters.specs.Places.{may_put};
 ghost use Rattle.layout.specs.Fault.{activity_fault, rule_fault, at_fault, Lowest, Small, Later, Placed, Watches, Puts, Sane, FaultsRight};
@@ -12,7 +13,7 @@ use schedule::{Activity, ROOM};
 const LARGEST: u64 = 1 << 62;
 
 /// The lowest word that no lawful flight of fewer than 2^62 ticks leaves, if there is one.
-pub fn fault(words: &[u64; 294]) -> Option<usize>
+pub fn fault(words: &[u64; WORDS]) -> Option<usize>
     ensures { Lowest words.now result }
 {
     // Mostly no word is at fault, which is found out sooner than the lowest one.
@@ -23,22 +24,22 @@ pub fn fault(words: &[u64; 294]) -> Option<usize>
 }
 
 // Whether surely no word is at fault.
-fn sane(words: &[u64; 294]) -> bool
+fn sane(words: &[u64; WORDS]) -> bool
     ensures { result ≡ true → Sane words.now }
 {
     small(words) && words[WAITING] <= ROOM as u64 && activities_sane(words) && rules_sane(words)
 }
 
 // Whether surely no word is too large: none is larger than all of them or-ed together.
-fn small(words: &[u64; 294]) -> bool
+fn small(words: &[u64; WORDS]) -> bool
     ensures { result ≡ true → Small words.now }
 {
     words.iter().fold(0, |all, word| all | word) <= LARGEST
 }
 
-fn activities_sane(words: &[u64; 294]) -> bool
-    requires { slice_index words.now 69 ≤ 32 }
-    ensures { result ≡ true → ((i : ℕ) → i < slice_index words.now 69 → Later words.now i × Placed words.now i) }
+fn activities_sane(words: &[u64; WORDS]) -> bool
+    requires { slice_index words.now waiting_at ≤ 32 }
+    ensures { result ≡ true → ((i : ℕ) → i < slice_index words.now waiting_at → Later words.now i × Placed words.now i) }
 {
     (0..words[WAITING] as usize).all(|i| activity_sane(words[TIME], activity(words, i)))
 }
@@ -49,7 +50,7 @@ fn activity_sane(time: u64, activity: Activity) -> bool
     time < activity.release && may_put(activity.place)
 }
 
-fn rules_sane(words: &[u64; 294]) -> bool
+fn rules_sane(words: &[u64; WORDS]) -> bool
     ensures { result ≡ true → ((i : ℕ) → i < 16 → Watches words.now i × Puts words.now i) }
 {
     (0..COUNT).all(|i| rule_sane(watch(words, i).rule))
@@ -61,8 +62,8 @@ fn rule_sane(rule: Rule) -> bool
     rule.watches < PLACES as u64 && (rule.needs == 0 || rule.safes || may_put(rule.place))
 }
 
-fn at_fault(words: &[u64; 294], k: usize) -> bool
-    requires { k < 294 }
+fn at_fault(words: &[u64; WORDS], k: usize) -> bool
+    requires { k < word_count }
     ensures { result ≡ at_fault words.now k }
 {
     words[k] > LARGEST
@@ -75,9 +76,9 @@ fn at_fault(words: &[u64; 294], k: usize) -> bool
 }
 
 // A word is told by its place, since the answer is a place. Of an activity that waits: its time is not after now, or its place may not be put.
-fn activity_fault(words: &[u64; 294], k: usize) -> bool
-    requires past { 70 ≤ k }
-    requires inside { k < 166 }
+fn activity_fault(words: &[u64; WORDS], k: usize) -> bool
+    requires past { activities_at ≤ k }
+    requires inside { k < rules_at }
     ensures { result ≡ activity_fault words.now k }
 {
     if (k - ACTIVITIES) / ACTIVITY >= words[WAITING] as usize {
@@ -91,9 +92,9 @@ fn activity_fault(words: &[u64; 294], k: usize) -> bool
 }
 
 // Of a rule: it watches no parameter, or it is on and puts where it may not.
-fn rule_fault(words: &[u64; 294], k: usize) -> bool
-    requires past { 166 ≤ k }
-    requires inside { k < 278 }
+fn rule_fault(words: &[u64; WORDS], k: usize) -> bool
+    requires past { rules_at ≤ k }
+    requires inside { k < counts_at }
     ensures { result ≡ rule_fault words.now k }
 {
     match (k - RULES) % RULE {

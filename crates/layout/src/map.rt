@@ -1,7 +1,11 @@
 ghost use Rattle.layout.specs.Map.{ReadsBack};
 
+use parameters::PLACES;
+use rules::COUNT;
+use schedule::ROOM;
+
 /// How many words the satellite has.
-pub const WORDS: usize = 294;
+pub const WORDS: usize = COUNTS + COUNT;
 
 // Where they lie.
 pub const TIME: usize = 0;
@@ -16,13 +20,13 @@ pub const MISSED: usize = 4;
 
 pub const PARAMETERS: usize = 5;
 
-pub const WAITING: usize = 69;
+pub const WAITING: usize = PARAMETERS + PLACES;
 
-pub const ACTIVITIES: usize = 70;
+pub const ACTIVITIES: usize = WAITING + 1;
 
-pub const RULES: usize = 166;
+pub const RULES: usize = ACTIVITIES + ACTIVITY * ROOM;
 
-pub const COUNTS: usize = 278;
+pub const COUNTS: usize = RULES + RULE * COUNT;
 
 // How many words an activity and a rule take.
 pub const ACTIVITY: usize = 3;

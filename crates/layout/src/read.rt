@@ -2,19 +2,19 @@ ghost use Rattle.std.specs.Prelude.{◌≡◌, ◌+◌, ◌<◌, ◌≤◌, map,
 ghost use Rattle.std.specs.List.{range_with_len};
 ghost use Rattle.rules.specs.Watches.{rule_of, count_of};
 ghost use Rattle.satellite.specs.Model.{model};
-ghost use Rattle.layout.specs.Map.{activity_at, watch_at, rules_in, state_of};
+ghost use Rattle.layout.specs.Map.{activity_at, watch_at, rules_in, state_of, waiting_at, counts_at, word_count};
 
 use crate::map::{
     ACTIVITIES, ACTIVITY, COUNTS, EXPECTED, MISSED, PARAMETERS, REJECTED, RULE, RULES, SAFE_MODE,
-    TIME, WAITING,
+    TIME, WAITING, WORDS,
 };
 use rules::{Rule, Watch};
 use satellite::Satellite;
 use schedule::Activity;
 
 /// The satellite that words say. No `From`: this crate owns neither type.
-pub fn satellite(words: &[u64; 294]) -> Satellite
-    requires { slice_index words.now 69 ≤ 32 }
+pub fn satellite(words: &[u64; WORDS]) -> Satellite
+    requires { slice_index words.now waiting_at ≤ 32 }
     ensures { model result ≡ state_of words.now }
 {
     let mut satellite = Satellite::at_launch();
@@ -24,8 +24,8 @@ pub fn satellite(words: &[u64; 294]) -> Satellite
 
 // In place, and not inlined, so that to give the satellite back costs nothing.
 #[inline(never)]
-fn fill(words: &[u64; 294], satellite: &mut Satellite)
-    requires { slice_index words.now 69 ≤ 32 }
+fn fill(words: &[u64; WORDS], satellite: &mut Satellite)
+    requires { slice_index words.now waiting_at ≤ 32 }
     ensures { model satellite.new ≡ state_of words.now }
 {
     satellite.time = words[TIME];
@@ -43,7 +43,7 @@ fn fill(words: &[u64; 294], satellite: &mut Satellite)
 }
 
 // All that there is room for, whether they wait or not.
-fn fill_activities(words: &[u64; 294], activities: &mut [Activity; 32])
+fn fill_activities(words: &[u64; WORDS], activities: &mut [Activity; 32])
     ensures { activities.new ≡ map (activity_at words.now) (range_with_len 0 32) }
 {
     for (k, room) in activities.iter_mut().enumerate() {
@@ -51,23 +51,23 @@ fn fill_activities(words: &[u64; 294], activities: &mut [Activity; 32])
     }
 }
 
-pub(crate) fn activity(words: &[u64; 294], k: usize) -> Activity
+pub(crate) fn activity(words: &[u64; WORDS], k: usize) -> Activity
     requires { k < 32 }
     ensures { result ≡ activity_at words.now k }
 {
     Activity::from(part(words, ACTIVITIES + ACTIVITY * k))
 }
 
-fn fill_watches(words: &[u64; 294], watches: &mut [Watch; 16])
+fn fill_watches(words: &[u64; WORDS], watches: &mut [Watch; 16])
     ensures rules { map rule_of watches.new ≡ rules_in words.now }
-    ensures counts { map count_of watches.new ≡ take 16 (drop 278 words.now) }
+    ensures counts { map count_of watches.new ≡ take 16 (drop counts_at words.now) }
 {
     for (k, room) in watches.iter_mut().enumerate() {
         *room = watch(words, k);
     }
 }
 
-pub(crate) fn watch(words: &[u64; 294], k: usize) -> Watch
+pub(crate) fn watch(words: &[u64; WORDS], k: usize) -> Watch
     requires { k < 16 }
     ensures { result ≡ watch_at words.now k }
 {
@@ -78,8 +78,8 @@ pub(crate) fn watch(words: &[u64; 294], k: usize) -> Watch
 }
 
 // A part of the words, from a place on.
-fn part<const M: usize>(words: &[u64; 294], from: usize) -> [u64; M]
-    requires { from + M ≤ 294 }
+fn part<const M: usize>(words: &[u64; WORDS], from: usize) -> [u64; M]
+    requires { from + M ≤ word_count }
     ensures { result ≡ take M (drop from words.now) }
 {
     let mut part = [0; M];

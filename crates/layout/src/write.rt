@@ -2,16 +2,16 @@ ghost use Rattle.std.specs.Prelude.{◌≡◌, ◌+◌, ◌*◌, ◌≤◌, ◌+
 ghost use Rattle.std.specs.List.{flat_map};
 ghost use Rattle.rules.specs.Watches.{rule_of};
 ghost use Rattle.satellite.specs.Model.{model};
-ghost use Rattle.layout.specs.Map.{activity_words, rule_words, words_of};
+ghost use Rattle.layout.specs.Map.{activity_words, rule_words, words_of, activity_size, activities_at, rules_at, counts_at, word_count};
 
-use crate::map::{ACTIVITIES, ACTIVITY, COUNTS, PARAMETERS, RULE, RULES, TIME, WAITING};
+use crate::map::{ACTIVITIES, ACTIVITY, COUNTS, PARAMETERS, RULE, RULES, TIME, WAITING, WORDS};
 use rules::{COUNT, Watch};
 use satellite::Satellite;
 use schedule::{Activity, ROOM};
 use std::array;
 
 /// Writes the words of a satellite. It writes to the caller's array, for an array that is given back is copied.
-pub fn write_words(satellite: &Satellite, words: &mut [u64; 294])
+pub fn write_words(satellite: &Satellite, words: &mut [u64; WORDS])
     ensures { words.new ≡ words_of (model satellite.now) }
 {
     let head = [
@@ -36,9 +36,9 @@ pub fn write_words(satellite: &Satellite, words: &mut [u64; 294])
 
 // No generic loop for this and `lay_rules`: what numbers a thing has would be an `Fn` over a const parameter, of which
 // nothing is proved. And arrays of the numbers of all, made by `map` and laid at once, are cleared and copied as a whole.
-fn lay_activities(words: &mut [u64; 294], waiting: &[Activity])
+fn lay_activities(words: &mut [u64; WORDS], waiting: &[Activity])
     requires { length waiting.now ≤ 32 }
-    ensures { words.new ≡ take 70 words.old ++ (flat_map activity_words waiting.now ++ drop (70 + 3 * length waiting.now) words.old) }
+    ensures { words.new ≡ take activities_at words.old ++ (flat_map activity_words waiting.now ++ drop (activities_at + activity_size * length waiting.now) words.old) }
 {
     for (k, activity) in waiting.iter().enumerate() {
         let numbers = <[u64; ACTIVITY]>::from(*activity);
@@ -46,8 +46,8 @@ fn lay_activities(words: &mut [u64; 294], waiting: &[Activity])
     }
 }
 
-fn lay_rules(words: &mut [u64; 294], watches: &[Watch; 16])
-    ensures laid { words.new ≡ take 166 words.old ++ (flat_map rule_words (map rule_of watches.now) ++ drop 278 words.old) }
+fn lay_rules(words: &mut [u64; WORDS], watches: &[Watch; 16])
+    ensures laid { words.new ≡ take rules_at words.old ++ (flat_map rule_words (map rule_of watches.now) ++ drop counts_at words.old) }
     ensures long { length watches.now ≡ 16 }
 {
     for (k, watch) in watches.iter().enumerate() {
@@ -58,8 +58,8 @@ fn lay_rules(words: &mut [u64; 294], watches: &[Watch; 16])
 
 // Writes a part of the words, from a place on. How long the part is, is said here and in `lay_rules` since a caller that
 // lends an array of a satellite behind a reference does not know it.
-fn lay<const M: usize>(words: &mut [u64; 294], from: usize, part: &[u64; M])
-    requires { from + M ≤ 294 }
+fn lay<const M: usize>(words: &mut [u64; WORDS], from: usize, part: &[u64; M])
+    requires { from + M ≤ word_count }
     ensures laid { words.new ≡ take from words.old ++ (part.now ++ drop (from + M) words.old) }
     ensures long { length part.now ≡ M }
 {

@@ -3,7 +3,7 @@ use Rattle.std.specs.List.{range_with_len}
 use Rattle.std.proofs.lemmas.List.FromFn.{fill_by_all}
 use Rattle.rules.specs.Watching.{off}
 use Rattle.rules.specs.Watches.{rule_of, count_of}
-use Rattle.layout.specs.Map.{watch_at, rules_in}
+use Rattle.layout.specs.Map.{watch_at, rules_in, counts_at}
 use Rattle.layout.proofs.Parts.{part_of}
 use Rattle.layout.proofs.read.fill_watches.Goals as goal
 use Rattle.layout.proofs.read.fill_watches.Goals.{After-loop-k}
@@ -16,4 +16,4 @@ unfolding rules_in
 returns-clause-rules c = ap (map rule_of) (all_watches (goal.at.returns-clause-rules c).After-loop-k)
 
 pub returns-clause-counts : goal.returns-clause-counts
-returns-clause-counts c = ap (map count_of) (all_watches (goal.at.returns-clause-counts c).After-loop-k) ∙ sym (part_of 278 16 c.args.words.now (omega arith))
+returns-clause-counts c = ap (map count_of) (all_watches (goal.at.returns-clause-counts c).After-loop-k) ∙ sym (part_of counts_at 16 c.args.words.now (omega arith))
