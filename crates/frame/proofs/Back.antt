@@ -3,7 +3,6 @@ use Rattle.std.proofs.Common.{◌≡◌, ℕ, ◌≤◌, Bool, true, false, eqb,
 use Rattle.std.proofs.lemmas.Bool.Decides.{nat_tests}
 use Rattle.std.proofs.lemmas.Bool.{eq-eqb, le-leb, leb-true, and_parts, and_from, cond-true}
 use Rattle.frame.specs.declared.Command.{Command}
-use Rattle.frame.specs.declared.Command.TheVariants.{Put, Later, Forget, Sleep, Wake, SetRule, Unknown}
 use Rattle.frame.specs.declared.Telecommand.{Telecommand}
 use Rattle.frame.specs.Frame.{all_small, weighed, check_of, is_whole, command_of, decoded, is_kind, bit, arranged, carried, body, encoded, encodable, encoding}
 
@@ -31,36 +30,36 @@ bit_back true = refl
 bit_back false = refl
 
 -- from 6 on a kind is none
-pub no_kind : (f : List ℕ) → 6 ≤ get_or f 1 0 → Unknown (get_or f 1 0) ≡ command_of f
+pub no_kind : (f : List ℕ) → 6 ≤ get_or f 1 0 → Command.Unknown (get_or f 1 0) ≡ command_of f
 no_kind f l = grind (arith, nat_tests)
 
 -- the command is read back, if its kind is its own
 command_back : (n : ℕ) (c : Command) (v : ℕ) → is_kind c ≡ true → command_of (set (carried n c) 11 v) ≡ c
-command_back n (Put a b) v h = refl
-command_back n (Later a) v h = refl
-command_back n Forget v h = refl
-command_back n Sleep v h = refl
-command_back n Wake v h = refl
-command_back n (SetRule k r) v h = λ i. SetRule k (record { watches = r.watches; limit = r.limit; upward = bit_back r.upward i; needs = r.needs; safes = bit_back r.safes i; place = r.place; number = r.number })
-command_back n (Unknown k) v h = sym (no_kind (set (carried n (Unknown k)) 11 v) (leb-true 6 k h))
+command_back n (Command.Put a b) v h = refl
+command_back n (Command.Later a) v h = refl
+command_back n Command.Forget v h = refl
+command_back n Command.Sleep v h = refl
+command_back n Command.Wake v h = refl
+command_back n (Command.SetRule k r) v h = λ i. Command.SetRule k (record { watches = r.watches; limit = r.limit; upward = bit_back r.upward i; needs = r.needs; safes = bit_back r.safes i; place = r.place; number = r.number })
+command_back n (Command.Unknown k) v h = sym (no_kind (set (carried n (Command.Unknown k)) 11 v) (leb-true 6 k h))
 
 whole_of : (n : ℕ) (c : Command) → all_small (carried n c) ≡ true → is_whole (set (carried n c) 11 (check_of (carried n c))) ≡ true
-whole_of n (Put a b) s = whole_back n 0 a b 0 0 0 0 0 0 s
-whole_of n (Later a) s = whole_back n 1 a.release a.place a.number 0 0 0 0 0 s
-whole_of n Forget s = whole_back n 2 0 0 0 0 0 0 0 0 s
-whole_of n Sleep s = whole_back n 3 0 0 0 0 0 0 0 0 s
-whole_of n Wake s = whole_back n 4 0 0 0 0 0 0 0 0 s
-whole_of n (SetRule k r) s = whole_back n 5 k r.watches r.limit (bit r.upward) r.needs (bit r.safes) r.place r.number s
-whole_of n (Unknown k) s = whole_back n k 0 0 0 0 0 0 0 0 s
+whole_of n (Command.Put a b) s = whole_back n 0 a b 0 0 0 0 0 0 s
+whole_of n (Command.Later a) s = whole_back n 1 a.release a.place a.number 0 0 0 0 0 s
+whole_of n Command.Forget s = whole_back n 2 0 0 0 0 0 0 0 0 s
+whole_of n Command.Sleep s = whole_back n 3 0 0 0 0 0 0 0 0 s
+whole_of n Command.Wake s = whole_back n 4 0 0 0 0 0 0 0 0 s
+whole_of n (Command.SetRule k r) s = whole_back n 5 k r.watches r.limit (bit r.upward) r.needs (bit r.safes) r.place r.number s
+whole_of n (Command.Unknown k) s = whole_back n k 0 0 0 0 0 0 0 0 s
 
 number_of : (n : ℕ) (c : Command) (v : ℕ) → get_or (set (carried n c) 11 v) 0 0 ≡ n
-number_of n (Put a b) v = refl
-number_of n (Later a) v = refl
-number_of n Forget v = refl
-number_of n Sleep v = refl
-number_of n Wake v = refl
-number_of n (SetRule k r) v = refl
-number_of n (Unknown k) v = refl
+number_of n (Command.Put a b) v = refl
+number_of n (Command.Later a) v = refl
+number_of n Command.Forget v = refl
+number_of n Command.Sleep v = refl
+number_of n Command.Wake v = refl
+number_of n (Command.SetRule k r) v = refl
+number_of n (Command.Unknown k) v = refl
 
 pub round_trip : (t : Telecommand) → encodable t ≡ true → decoded (encoded t) ≡ Some t
 round_trip t h =

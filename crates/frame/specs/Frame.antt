@@ -3,7 +3,6 @@ use Rattle.std.specs.Prelude.{ℕ, zero, suc, ◌+◌, ◌*◌, ◌%◌, Bool, t
 use Rattle.std.specs.List.{list_all}
 use Rattle.rules.specs.declared.rule.Rule.{Rule}
 use Rattle.frame.specs.declared.Command.{Command}
-use Rattle.frame.specs.declared.Command.TheVariants.{Put, Later, Forget, Sleep, Wake, SetRule, Unknown}
 use Rattle.frame.specs.declared.Telecommand.{Telecommand}
 
 -- every number is below 2^32
@@ -35,13 +34,13 @@ rule_of f = record {
 
 abbrev pub command_of : List ℕ → Command
 command_of f =
-    cond (slice_index f 1 == 0) (Put (slice_index f 2) (slice_index f 3))
-    (cond (slice_index f 1 == 1) (Later (record { release = slice_index f 2; place = slice_index f 3; number = slice_index f 4 }))
-    (cond (slice_index f 1 == 2) Forget
-    (cond (slice_index f 1 == 3) Sleep
-    (cond (slice_index f 1 == 4) Wake
-    (cond (slice_index f 1 == 5) (SetRule (slice_index f 2) (rule_of f))
-    (Unknown (slice_index f 1)))))))
+    cond (slice_index f 1 == 0) (Command.Put (slice_index f 2) (slice_index f 3))
+    (cond (slice_index f 1 == 1) (Command.Later (record { release = slice_index f 2; place = slice_index f 3; number = slice_index f 4 }))
+    (cond (slice_index f 1 == 2) Command.Forget
+    (cond (slice_index f 1 == 3) Command.Sleep
+    (cond (slice_index f 1 == 4) Command.Wake
+    (cond (slice_index f 1 == 5) (Command.SetRule (slice_index f 2) (rule_of f))
+    (Command.Unknown (slice_index f 1)))))))
 
 -- what a frame carries: nothing if it is not whole
 abbrev pub decoded : List ℕ → Option Telecommand
@@ -49,13 +48,13 @@ decoded f = cond (is_whole f) (Some (record { number = slice_index f 0; command 
 
 -- whether a command is what its kind is read as: of no kind are those from 6 on
 abbrev pub is_kind : Command → Bool
-is_kind (Put a b) = true
-is_kind (Later a) = true
-is_kind Forget = true
-is_kind Sleep = true
-is_kind Wake = true
-is_kind (SetRule k r) = true
-is_kind (Unknown k) = nat_le 6 k
+is_kind (Command.Put a b) = true
+is_kind (Command.Later a) = true
+is_kind Command.Forget = true
+is_kind Command.Sleep = true
+is_kind Command.Wake = true
+is_kind (Command.SetRule k r) = true
+is_kind (Command.Unknown k) = nat_le 6 k
 
 abbrev pub bit : Bool → ℕ
 bit b = cond b 1 0
@@ -65,13 +64,13 @@ abbrev pub arranged : (number kind a b c d e f g h : ℕ) → List ℕ
 arranged n k a b c d e f g h = n ∷ (k ∷ (a ∷ (b ∷ (c ∷ (d ∷ (e ∷ (f ∷ (g ∷ (h ∷ (0 ∷ (0 ∷ [])))))))))))
 
 abbrev pub carried : ℕ → Command → List ℕ
-carried n (Put a b) = arranged n 0 a b 0 0 0 0 0 0
-carried n (Later a) = arranged n 1 a.release a.place a.number 0 0 0 0 0
-carried n Forget = arranged n 2 0 0 0 0 0 0 0 0
-carried n Sleep = arranged n 3 0 0 0 0 0 0 0 0
-carried n Wake = arranged n 4 0 0 0 0 0 0 0 0
-carried n (SetRule k r) = arranged n 5 k r.watches r.limit (bit r.upward) r.needs (bit r.safes) r.place r.number
-carried n (Unknown k) = arranged n k 0 0 0 0 0 0 0 0
+carried n (Command.Put a b) = arranged n 0 a b 0 0 0 0 0 0
+carried n (Command.Later a) = arranged n 1 a.release a.place a.number 0 0 0 0 0
+carried n Command.Forget = arranged n 2 0 0 0 0 0 0 0 0
+carried n Command.Sleep = arranged n 3 0 0 0 0 0 0 0 0
+carried n Command.Wake = arranged n 4 0 0 0 0 0 0 0 0
+carried n (Command.SetRule k r) = arranged n 5 k r.watches r.limit (bit r.upward) r.needs (bit r.safes) r.place r.number
+carried n (Command.Unknown k) = arranged n k 0 0 0 0 0 0 0 0
 
 abbrev pub body : Telecommand → List ℕ
 body t = carried t.number t.command
