@@ -1,5 +1,5 @@
 -- How large what the satellite holds can be after so many ticks.
-use Rattle.std.proofs.Common.{◌≡◌, ℕ, zero, suc, ◌+◌, ◌<◌, ◌≤◌, cond, List, [], ◌∷◌, length, get_or, set, replicate, sym, ap, subst, ⊎_elim, arith, length-append}
+use Rattle.std.proofs.Common.{◌≡◌, ℕ, zero, suc, ◌+◌, ◌<◌, ◌≤◌, cond, List, [], ◌∷◌, ◌++◌, length, get_or, set, replicate, sym, ap, subst, ⊎_elim, arith, length-append}
 use Rattle.std.proofs.lemmas.Bool.{cases_lt, cases_eq, cond_both}
 use Rattle.std.proofs.lemmas.List.{get_or-set_other}
 use Rattle.schedule.specs.declared.activity.Activity.{Activity}
@@ -7,9 +7,8 @@ use Rattle.schedule.specs.Waiting.{due, put_all}
 use Rattle.rules.specs.declared.rule.Rule.{Rule}
 use Rattle.rules.specs.Watching.{off, is_past}
 use Rattle.frame.specs.declared.Command.{Command}
-use Rattle.frame.specs.declared.Command.TheVariants.{Put, Later, Forget, Sleep, Wake, SetRule, Unknown}
 use Rattle.frame.specs.declared.Telecommand.{Telecommand}
-use Rattle.satellite.specs.State.{State, parameter, rule, count, at_launch}
+use Rattle.satellite.specs.State.{State, with_parameters, with_schedule, with_rules, with_counts, parameter, rule, count, at_launch}
 use Rattle.satellite.specs.Story.{Inputs, begun, looked, watched_one, watched, done, expecting_next, obeyed, at_release, at_reception}
 use Rattle.satellite.proofs.Watching.{one_rules, watched_rules, count_before}
 use Rattle.flight.specs.Machine.{AllLawful, more}
@@ -20,15 +19,17 @@ use Rattle.flight.proofs.Waits.{among_append, parts, among_due, among_still, par
 use Rattle.flight.proofs.Received.{Small, SmallRule, SmallActivity, SmallCommand, decoded_small}
 
 -- counters count ticks or commands at most, and other numbers are numbers of a frame at most
-pub record Bounded (ticks commands : ℕ) (s : State) : Type 0 where
-  pub time : s.time ≤ ticks
-  pub expected : s.expected ≤ commands
-  pub rejected : s.rejected ≤ commands
-  pub missed : s.missed + length s.schedule ≤ commands
-  pub parameters : (k : ℕ) → Small (parameter s k)
-  pub schedule : (a : Activity) → Among a s.schedule → SmallActivity a
-  pub rules : (k : ℕ) → SmallRule (rule s k)
-  pub counts : (k : ℕ) → count s k ≤ ticks
+abbrev pub Bounded : (ticks commands : ℕ) → State → Type 0
+Bounded ticks commands s = record {
+  time : s.time ≤ ticks;
+  expected : s.expected ≤ commands;
+  rejected : s.rejected ≤ commands;
+  missed : s.missed + length s.schedule ≤ commands;
+  parameters : (k : ℕ) → Small (parameter s k);
+  schedule : (a : Activity) → Among a s.schedule → SmallActivity a;
+  rules : (k : ℕ) → SmallRule (rule s k);
+  counts : (k : ℕ) → count s k ≤ ticks;
+}
 
 all_same : {A : Type 0} (P : A → Type 0) (n k : ℕ) (d : A) → P d → P (get_or (replicate n d) k d)
 all_same P zero k d p = p
@@ -107,32 +108,31 @@ reception_bounded n i s l b =
 looser : (t n : ℕ) (s : State) → Bounded t n s → Bounded t (suc n) s
 looser t n s h = record { time = h.time; expected = omega arith; rejected = omega arith; missed = omega arith; parameters = h.parameters; schedule = h.schedule; rules = h.rules; counts = h.counts }
 
+-- and once the next is expected
+next : (t n : ℕ) (s : State) → Bounded t n s → Bounded t (suc n) (expecting_next s)
+next t n s h = record { time = h.time; expected = omega arith; rejected = omega arith; missed = omega arith; parameters = h.parameters; schedule = h.schedule; rules = h.rules; counts = h.counts }
+
+-- with other parameters
+valued : (t n : ℕ) (s : State) (v : List ℕ) → ((k : ℕ) → Small (get_or v k 0)) → Bounded t n s → Bounded t n (with_parameters v s)
+valued t n s v p h = record { time = h.time; expected = h.expected; rejected = h.rejected; missed = h.missed; parameters = p; schedule = h.schedule; rules = h.rules; counts = h.counts }
+
+-- with other activities, of which one more may be missed
+scheduled : (t n : ℕ) (s : State) (xs : List Activity) → length xs ≤ suc (length s.schedule) → ((a : Activity) → Among a xs → SmallActivity a) → Bounded t n s → Bounded t (suc n) (expecting_next (with_schedule xs s))
+scheduled t n s xs l q h = record { time = h.time; expected = omega arith; rejected = omega arith; missed = omega arith; parameters = h.parameters; schedule = q; rules = h.rules; counts = h.counts }
+
+ruled : (t n : ℕ) (s : State) (rs : List Rule) (cs : List ℕ) → ((k : ℕ) → SmallRule (get_or rs k off)) → ((k : ℕ) → get_or cs k 0 ≤ t) → Bounded t n s → Bounded t n (with_rules rs (with_counts cs s))
+ruled t n s rs cs q c h = record { time = h.time; expected = h.expected; rejected = h.rejected; missed = h.missed; parameters = h.parameters; schedule = h.schedule; rules = q; counts = c }
+
+-- a command done, or rejected, before the next is expected
 done_bounded : (t n : ℕ) (s : State) (c : Command) → SmallCommand c → Bounded t n s → Bounded t (suc n) (expecting_next (done s c))
-done_bounded t n s (Put a b) q h = record { time = h.time; expected = omega arith; rejected = omega arith; missed = omega arith; parameters = λ k. set_both Small s.parameters a b 0 k q (h.parameters k); schedule = h.schedule; rules = h.rules; counts = h.counts }
-done_bounded t n s (Later a) q h = record {
-  time = h.time;
-  expected = omega arith;
-  rejected = omega arith;
-  missed = rw (length-append s.schedule (a ∷ [])) (omega arith);
-  parameters = h.parameters;
-  schedule = λ b m. ⊎_elim (h.schedule b) (λ e. subst SmallActivity (sym e) q) (among_append b a s.schedule m);
-  rules = h.rules;
-  counts = h.counts;
-}
-done_bounded t n s Forget q h = record { time = h.time; expected = omega arith; rejected = omega arith; missed = omega arith; parameters = h.parameters; schedule = λ a m. elim m [ ]; rules = h.rules; counts = h.counts }
-done_bounded t n s Sleep q h = record { time = h.time; expected = omega arith; rejected = omega arith; missed = omega arith; parameters = h.parameters; schedule = h.schedule; rules = h.rules; counts = h.counts }
-done_bounded t n s Wake q h = record { time = h.time; expected = omega arith; rejected = omega arith; missed = omega arith; parameters = h.parameters; schedule = h.schedule; rules = h.rules; counts = h.counts }
-done_bounded t n s (SetRule k r) q h = record {
-  time = h.time;
-  expected = omega arith;
-  rejected = omega arith;
-  missed = omega arith;
-  parameters = h.parameters;
-  schedule = h.schedule;
-  rules = λ j. set_both SmallRule s.rules k r off j q (h.rules j);
-  counts = λ j. set_both (λ x. x ≤ t) s.counts k 0 0 j (omega arith) (h.counts j);
-}
-done_bounded t n s (Unknown k) q h = record { time = h.time; expected = omega arith; rejected = omega arith; missed = omega arith; parameters = h.parameters; schedule = h.schedule; rules = h.rules; counts = h.counts }
+done_bounded t n s (Command.Put a b) q h = next t n (with_parameters (set s.parameters a b) s) (valued t n s (set s.parameters a b) (λ k. set_both Small s.parameters a b 0 k q (h.parameters k)) h)
+done_bounded t n s (Command.Later a) q h =
+    scheduled t n s (s.schedule ++ (a ∷ [])) (omega (arith, length-append s.schedule (a ∷ []))) (λ b m. ⊎_elim (h.schedule b) (λ e. subst SmallActivity (sym e) q) (among_append b a s.schedule m)) h
+done_bounded t n s Command.Forget q h = scheduled t n s [] (omega arith) (λ a m. elim m [ ]) h
+done_bounded t n s Command.Sleep q h = next t n s h
+done_bounded t n s Command.Wake q h = next t n s h
+done_bounded t n s (Command.SetRule k r) q h = next t n (done s (Command.SetRule k r)) (ruled t n s _ _ (λ j. set_both SmallRule s.rules k r off j q (h.rules j)) (λ j. set_both (λ x. x ≤ t) s.counts k 0 0 j (omega arith) (h.counts j)) h)
+done_bounded t n s (Command.Unknown k) q h = next t n s h
 
 obeyed_bounded : (ticks n : ℕ) (t : Telecommand) (s : State) → SmallCommand t.command → Bounded ticks n s → Bounded ticks (suc n) (obeyed t s)
 obeyed_bounded ticks n t s q h =

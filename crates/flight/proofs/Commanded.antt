@@ -2,7 +2,6 @@
 use Rattle.std.proofs.Common.{◌≡◌, ℕ, suc, true, eqb, List, [], ◌∷◌, Some, Option, sym, refl, ap, ◌∙◌}
 use Rattle.std.proofs.lemmas.Bool.{eq-eqb, ne_eqb, cond-true, cond-false, true≢false}
 use Rattle.frame.specs.declared.Command.{Command}
-use Rattle.frame.specs.declared.Command.TheVariants.{Put, Later, Forget, Sleep, Wake, SetRule, Unknown}
 use Rattle.frame.specs.declared.Telecommand.{Telecommand}
 use Rattle.satellite.specs.State.{State}
 use Rattle.satellite.specs.Story.{Inputs, done, obeyed, at_reception}
@@ -16,13 +15,13 @@ expected_kept i s = (reception i s).expected
 
 -- doing a command does not change which one is expected
 pub done_expected : (s : State) (c : Command) → (done s c).expected ≡ s.expected
-done_expected s (Put a b) = refl
-done_expected s (Later a) = refl
-done_expected s Forget = refl
-done_expected s Sleep = refl
-done_expected s Wake = refl
-done_expected s (SetRule k r) = refl
-done_expected s (Unknown k) = refl
+done_expected s (Command.Put a b) = refl
+done_expected s (Command.Later a) = refl
+done_expected s Command.Forget = refl
+done_expected s Command.Sleep = refl
+done_expected s Command.Wake = refl
+done_expected s (Command.SetRule k r) = refl
+done_expected s (Command.Unknown k) = refl
 
 -- a command whose turn it is moves the expected number on by one, any other leaves it
 pub obeyed_expected : (t : Telecommand) (s : State) → t.number ≡ s.expected → (obeyed t s).expected ≡ suc s.expected
@@ -65,7 +64,7 @@ comes_through i is c e =
 
 pub safe_at_once : SafeAtOnce
 safe_at_once i is e =
-    let t : Telecommand = record { number = (after is).expected; command = Sleep } in
+    let t : Telecommand = record { number = (after is).expected; command = Command.Sleep } in
     let r = at_reception i (after is) in
     ap (λ (u : State). u.safe_mode) (ticked_heard i (after is) (Some t) e)
     ∙ obeyed_cases t r (λ (u : State). u.safe_mode ≡ true) (λ _ _. refl) (λ _ f. absurd (true≢false f)) (λ f. absurd (f (sym (expected_kept i (after is)))))

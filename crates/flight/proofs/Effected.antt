@@ -6,7 +6,6 @@ use Rattle.schedule.specs.Waiting.{due, put_all}
 use Rattle.rules.specs.declared.rule.Rule.{Rule}
 use Rattle.rules.specs.Watching.{off, acts, may_set}
 use Rattle.frame.specs.declared.Command.{Command}
-use Rattle.frame.specs.declared.Command.TheVariants.{Put, Later, Forget, Sleep, Wake, SetRule, Unknown}
 use Rattle.frame.specs.declared.Telecommand.{Telecommand}
 use Rattle.parameters.specs.Places.{may_put}
 use Rattle.satellite.specs.State.{State, with_expected, parameter, rule}
@@ -69,13 +68,13 @@ can_set k r l w o =
 
 pub commands_act : CommandsAct
 commands_act = record {
-  put = λ i is a b e p. its_turn i is (Put a b) e (place_may a p);
-  later = λ i is a e p l n. its_turn i is (Later a) e (and_from (may_put a.place) (ltb (before_command i is).time a.release && ltb (length (before_command i is).schedule) 32) (place_may a.place p)
+  put = λ i is a b e p. its_turn i is (Command.Put a b) e (place_may a p);
+  later = λ i is a e p l n. its_turn i is (Command.Later a) e (and_from (may_put a.place) (ltb (before_command i is).time a.release && ltb (length (before_command i is).schedule) 32) (place_may a.place p)
       (and_from (ltb (before_command i is).time a.release) (ltb (length (before_command i is).schedule) 32) (lt-ltb (before_command i is).time a.release l) (lt-ltb (length (before_command i is).schedule) 32 n)));
-  forget = λ i is e. its_turn i is Forget e refl;
-  sleep = λ i is e. its_turn i is Sleep e refl;
-  wake = λ i is e. its_turn i is Wake e refl;
-  set_rule = λ i is k r e l w o. its_turn i is (SetRule k r) e (can_set k r l w o);
+  forget = λ i is e. its_turn i is Command.Forget e refl;
+  sleep = λ i is e. its_turn i is Command.Sleep e refl;
+  wake = λ i is e. its_turn i is Command.Wake e refl;
+  set_rule = λ i is k r e l w o. its_turn i is (Command.SetRule k r) e (can_set k r l w o);
 }
 
 pub else_ignored : ElseIgnored
@@ -102,13 +101,13 @@ watched_low (suc k) s j l h =
     ∙ one_low k (watched k s) j l (subst (λ (rs : List Rule). RuleOk (get_or rs k off)) (sym (watched_rules k s)) (h k)) ∙ watched_low k s j l h
 
 done_low : (s : State) (c : Command) (k : ℕ) → can s c ≡ true → k < 16 → parameter (done s c) k ≡ parameter s k
-done_low s (Put a b) k h l = let p = may_place a h in get_or-set_other s.parameters a k b 0 (λ e. omega arith)
-done_low s (Later a) k h l = refl
-done_low s Forget k h l = refl
-done_low s Sleep k h l = refl
-done_low s Wake k h l = refl
-done_low s (SetRule n r) k h l = refl
-done_low s (Unknown n) k h l = refl
+done_low s (Command.Put a b) k h l = let p = may_place a h in get_or-set_other s.parameters a k b 0 (λ e. omega arith)
+done_low s (Command.Later a) k h l = refl
+done_low s Command.Forget k h l = refl
+done_low s Command.Sleep k h l = refl
+done_low s Command.Wake k h l = refl
+done_low s (Command.SetRule n r) k h l = refl
+done_low s (Command.Unknown n) k h l = refl
 
 reception_low : (i : Inputs) (s : State) (k : ℕ) → Lawful i → Sound s → k < 16 → parameter (at_reception i s) k ≡ get_or i.readings k 0
 reception_low i s k l h lt =
@@ -131,13 +130,13 @@ keeps_sizes is l = let z = after_sized is l in record { parameters = z.parameter
 
 -- counters that no command changes
 pub done_counters : (s : State) (c : Command) → ((done s c).time ≡ s.time) × ((done s c).rejected ≡ s.rejected) × ((done s c).missed ≡ s.missed)
-done_counters s (Put a b) = (refl, refl, refl)
-done_counters s (Later a) = (refl, refl, refl)
-done_counters s Forget = (refl, refl, refl)
-done_counters s Sleep = (refl, refl, refl)
-done_counters s Wake = (refl, refl, refl)
-done_counters s (SetRule k r) = (refl, refl, refl)
-done_counters s (Unknown k) = (refl, refl, refl)
+done_counters s (Command.Put a b) = (refl, refl, refl)
+done_counters s (Command.Later a) = (refl, refl, refl)
+done_counters s Command.Forget = (refl, refl, refl)
+done_counters s Command.Sleep = (refl, refl, refl)
+done_counters s Command.Wake = (refl, refl, refl)
+done_counters s (Command.SetRule k r) = (refl, refl, refl)
+done_counters s (Command.Unknown k) = (refl, refl, refl)
 
 pub after_time : (i : Inputs) (is : List Inputs) → (after (i ∷ is)).time ≡ suc (after is).time
 after_time i is =

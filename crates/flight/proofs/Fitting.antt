@@ -1,21 +1,25 @@
 -- What a flight leaves is not refused.
-use Rattle.std.proofs.Common.{◌≡◌, ℕ, zero, suc, ◌+◌, ◌-◌, ◌*◌, ◌/◌, ◌%◌, ◌<◌, ◌≤◌, Bool, true, false, eqb, leb, List, length, get_or, sym, refl, ap, ◌∙◌, subst, inl, inr, ⊎_elim, arith}
-use Rattle.std.proofs.lemmas.Bool.{le-leb, and_from, cases_lt}
+use Rattle.std.proofs.Common.{◌≡◌, ℕ, zero, suc, ◌+◌, ◌*◌, ◌<◌, ◌≤◌, Bool, true, false, eqb, leb, List, [], ◌∷◌, length, get_or, sym, refl, ap, ◌∙◌, subst, inl, inr, ⊎_elim, arith}
+use Rattle.std.proofs.lemmas.Bool.{le-leb, and_from}
 use Rattle.memory.specs.Threefold.{voted_words, threefold}
 use Rattle.memory.proofs.Mending.{votes_mend}
 use Rattle.schedule.specs.declared.activity.Activity.{Activity}
 use Rattle.schedule.specs.Waiting.{no_activity}
+use Rattle.std.specs.List.{flat_map}
+use Rattle.rules.specs.Watching.{off}
 use Rattle.rules.specs.declared.rule.Rule.{Rule}
 use Rattle.parameters.specs.Places.{may_put}
 use Rattle.satellite.specs.State.{State, rule}
 use Rattle.satellite.specs.Fit.{most}
-use Rattle.layout.specs.Map.{word_count, bit, activity_words, rule_words, words_of, Sized}
+use Rattle.layout.specs.Map.{word_count, bit, activity_words, rule_words, words_of, Sized, activity_size, rule_size, waiting_at, activities_at, rules_at, head_words, parts}
 use Rattle.layout.specs.Fault.{Faultless, Sane}
-use Rattle.layout.proofs.Places.{head_word, parameter_word, waiting_word, activity_word, nought_word, rule_word, count_word}
+use Rattle.layout.proofs.Places.{head_word, waiting_word, activity_word, rule_word}
 use Rattle.layout.proofs.Sanity.{faultless_of}
 use Rattle.flight.specs.Flight.{machine, after, NeverRefused}
 use Rattle.flight.specs.Effects.{Place}
+use Rattle.flight.specs.Scheduling.{Among, here, there}
 use Rattle.flight.proofs.Waits.{among_at}
+use Rattle.layout.proofs.Joined.{all_words, each_flat, each_nought, each_behind}
 use Rattle.flight.proofs.Sound.{Sound, after_sound, after_sized}
 use Rattle.flight.proofs.Received.{Small, SmallRule, SmallActivity}
 use Rattle.flight.proofs.Bounds.{Bounded, after_bounded}
@@ -45,55 +49,43 @@ rule_small r (suc (suc (suc (suc (suc zero))))) h = h.place
 rule_small r (suc (suc (suc (suc (suc (suc zero)))))) h = h.number
 rule_small r (suc (suc (suc (suc (suc (suc (suc j))))))) h = omega arith
 
--- the word at a place that is written in two ways
-moved : (ws : List ℕ) (a b : ℕ) → a ≡ b → get_or ws a 0 ≤ most → get_or ws b 0 ≤ most
-moved ws a b e h = subst (λ k. get_or ws k 0 ≤ most) e h
+head_most : (n : ℕ) (s : State) → n < most → Bounded n n s → (k : ℕ) → get_or (head_words s) k 0 ≤ most
+head_most n s l b zero = omega (arith, b.time)
+head_most n s l b (suc zero) = omega (arith, b.expected)
+head_most n s l b (suc (suc zero)) = let p = bit_small s.safe_mode in omega arith
+head_most n s l b (suc (suc (suc zero))) = omega (arith, b.rejected)
+head_most n s l b (suc (suc (suc (suc zero)))) = omega (arith, b.missed)
+head_most n s l b (suc (suc (suc (suc (suc k))))) = omega arith
 
-head_most : (n : ℕ) (s : State) → n < most → Bounded n n s → (k : ℕ) → k < 5 → get_or (words_of s) k 0 ≤ most
+waiting_most : (n k : ℕ) → n ≤ 32 → get_or (n ∷ []) k 0 ≤ most
+waiting_most n zero h = omega arith
+waiting_most n (suc k) h = omega arith
+
+-- an activity of a bounded state, or the one that stands where there is none
+each_activity : (xs : List Activity) → ((a : Activity) → Among a xs → SmallActivity a) → (i : ℕ) → SmallActivity (get_or xs i no_activity)
+each_activity [] h i = record { release = omega arith; place = omega arith; number = omega arith }
+each_activity (x ∷ xs) h zero = h x (here xs)
+each_activity (x ∷ xs) h (suc i) = each_activity xs (λ a m. h a (there x xs m)) i
+
+-- no word of a bounded state is past 2^62, part by part
+words_most : (n : ℕ) (s : State) → n < most → Sized s → Bounded n n s → (k : ℕ) → get_or (words_of s) k 0 ≤ most
 unfolding words_of
-head_most n s l b zero h = omega (arith, b.time)
-head_most n s l b (suc zero) h = omega (arith, b.expected)
-head_most n s l b (suc (suc zero)) h = let p = bit_small s.safe_mode in omega arith
-head_most n s l b (suc (suc (suc zero))) h = omega (arith, b.rejected)
-head_most n s l b (suc (suc (suc (suc zero)))) h = omega (arith, b.missed)
-head_most n s l b (suc (suc (suc (suc (suc k))))) h = absurd (omega arith)
-
-schedule_most : (n : ℕ) (s : State) → Sized s → Bounded n n s → (j : ℕ) → j < 96 → get_or (words_of s) (70 + j) 0 ≤ most
-schedule_most n s z b j h =
-    ⊎_elim
-    (λ (l : j / 3 < length s.schedule).
-    let e : 70 + (3 * (j / 3) + j % 3) ≡ 70 + j = omega arith in
-    moved (words_of s) (70 + (3 * (j / 3) + j % 3)) (70 + j) e
-    (subst (λ x. x ≤ most) (sym (activity_word s z (j / 3) (j % 3) l (omega arith)))
-    (let p = activity_small (get_or s.schedule (j / 3) no_activity) (j % 3) (b.schedule (get_or s.schedule (j / 3) no_activity) (among_at s.schedule (j / 3) no_activity l)) in omega arith)))
-    (λ (l : length s.schedule ≤ j / 3). subst (λ x. x ≤ most) (sym (nought_word s z j (omega arith) h)) (omega arith))
-    (cases_lt (j / 3) (length s.schedule))
-
-rules_most : (n : ℕ) (s : State) → Sized s → Bounded n n s → (j : ℕ) → j < 112 → get_or (words_of s) (166 + j) 0 ≤ most
-rules_most n s z b j h =
-    let e : 166 + (7 * (j / 7) + j % 7) ≡ 166 + j = omega arith in
-    moved (words_of s) (166 + (7 * (j / 7) + j % 7)) (166 + j) e
-    (subst (λ x. x ≤ most) (sym (rule_word s z (j / 7) (j % 7) (omega arith) (omega arith))) (let p = rule_small (rule s (j / 7)) (j % 7) (b.rules (j / 7)) in omega arith))
-
--- no word of a bounded state is past 2^62
-words_most : (n : ℕ) (s : State) → n < most → Sized s → Bounded n n s → (k : ℕ) → k < word_count → get_or (words_of s) k 0 ≤ most
-words_most n s l z b k h =
-    ⊎_elim (λ (a : k < 5). head_most n s l b k a) (λ (a : 5 ≤ k). ⊎_elim
-    (λ (c : k < 69). moved (words_of s) (5 + (k - 5)) k (omega arith) (subst (λ x. x ≤ most) (sym (parameter_word s z (k - 5) (omega arith))) (let p = b.parameters (k - 5) in omega arith)))
-    (λ (c : 69 ≤ k). ⊎_elim
-    (λ (d : k < 70). moved (words_of s) 69 k (omega arith) (subst (λ x. x ≤ most) (sym (waiting_word s z)) (let p = z.schedule in omega arith)))
-    (λ (d : 70 ≤ k). ⊎_elim
-    (λ (f : k < 166). moved (words_of s) (70 + (k - 70)) k (omega arith) (schedule_most n s z b (k - 70) (omega arith)))
-    (λ (f : 166 ≤ k). ⊎_elim
-    (λ (g : k < 278). moved (words_of s) (166 + (k - 166)) k (omega arith) (rules_most n s z b (k - 166) (omega arith)))
-    (λ (g : 278 ≤ k). moved (words_of s) (278 + (k - 278)) k (omega arith) (subst (λ x. x ≤ most) (sym (count_word s z (k - 278))) (let p = b.counts (k - 278) in omega arith)))
-    (cases_lt k 278)) (cases_lt k 166)) (cases_lt k 70)) (cases_lt k 69)) (cases_lt k 5)
+words_most n s l z b =
+    all_words (λ x. x ≤ most) (parts s) (omega arith) (
+      head_most n s l b, (
+      λ k. (let p = b.parameters k in omega arith), (
+      λ k. waiting_most (length s.schedule) k z.schedule, (
+      each_behind (λ x. x ≤ most) (flat_map activity_words s.schedule) _ (each_flat (λ x. x ≤ most) activity_words s.schedule no_activity (omega arith) (λ i j. let p = activity_small (get_or s.schedule i no_activity) j (each_activity s.schedule b.schedule i) in omega arith)) (each_nought (λ x. x ≤ most) _ (omega arith)), (
+      each_flat (λ x. x ≤ most) rule_words s.rules off (omega arith) (λ i j. let p = rule_small (rule s i) j (b.rules i) in omega arith), (
+      λ k. (let p = b.counts k in omega arith),
+      tt)))))
+    )
 
 -- a word of an activity or a rule, by its name
-activity_at : (s : State) → Sized s → (i j k : ℕ) → i < length s.schedule → j < 3 → 70 + (3 * i + j) ≡ k → get_or (words_of s) k 0 ≡ get_or (activity_words (get_or s.schedule i no_activity)) j 0
+activity_at : (s : State) → Sized s → (i j k : ℕ) → i < length s.schedule → j < activity_size → activities_at + (activity_size * i + j) ≡ k → get_or (words_of s) k 0 ≡ get_or (activity_words (get_or s.schedule i no_activity)) j 0
 activity_at s z i j k a b e = ap (λ n. get_or (words_of s) n 0) (sym e) ∙ activity_word s z i j a b
 
-rule_at : (s : State) → Sized s → (i j k : ℕ) → i < 16 → j < 7 → 166 + (7 * i + j) ≡ k → get_or (words_of s) k 0 ≡ get_or (rule_words (rule s i)) j 0
+rule_at : (s : State) → Sized s → (i j k : ℕ) → i < 16 → j < rule_size → rules_at + (rule_size * i + j) ≡ k → get_or (words_of s) k 0 ≡ get_or (rule_words (rule s i)) j 0
 rule_at s z i j k a b e = ap (λ n. get_or (words_of s) n 0) (sym e) ∙ rule_word s z i j a b
 
 bit_one : (b : Bool) → b ≡ true → eqb (bit b) 1 ≡ true
@@ -103,18 +95,18 @@ bit_one false e = e
 sane : (n : ℕ) (s : State) → n < most → Sized s → Sound s → Bounded n n s → Sane (words_of s)
 sane n s l z h b =
     let w = words_of s in
-    let c : get_or w 69 0 ≡ length s.schedule = waiting_word s z in
+    let c : get_or w waiting_at 0 ≡ length s.schedule = waiting_word s z in
     let t : get_or w 0 0 ≡ s.time = (head_word s).0 in
     record {
-      small = words_most n s l z b;
+      small = λ k lt. words_most n s l z b k;
       few = (let f = z.schedule in omega arith);
-      later = λ i lt. (let e = activity_at s z i 0 (70 + 3 * i) (omega arith) (omega arith) (omega arith) in let p = h.0.later (get_or s.schedule i no_activity) (among_at s.schedule i no_activity (omega arith)) in omega arith);
-      placed = λ i lt. (let e = activity_at s z i 1 (71 + 3 * i) (omega arith) (omega arith) (omega arith) in ap may_put e ∙ place_may (get_or s.schedule i no_activity).place (h.0.places (get_or s.schedule i no_activity) (among_at s.schedule i no_activity (omega arith))));
-      watches = λ i lt. (let e = rule_at s z i 0 (166 + 7 * i) lt (omega arith) (omega arith) in let p = (h.1 i).watches in omega arith);
+      later = λ i lt. (let e = activity_at s z i 0 (activities_at + activity_size * i) (omega arith) (omega arith) (omega arith) in let p = h.0.later (get_or s.schedule i no_activity) (among_at s.schedule i no_activity (omega arith)) in omega arith);
+      placed = λ i lt. (let e = activity_at s z i 1 (activities_at + 1 + activity_size * i) (omega arith) (omega arith) (omega arith) in ap may_put e ∙ place_may (get_or s.schedule i no_activity).place (h.0.places (get_or s.schedule i no_activity) (among_at s.schedule i no_activity (omega arith))));
+      watches = λ i lt. (let e = rule_at s z i 0 (rules_at + rule_size * i) lt (omega arith) (omega arith) in let p = (h.1 i).watches in omega arith);
       puts = λ i lt.
-          (let needs = rule_at s z i 3 (169 + 7 * i) lt (omega arith) (omega arith) in
-          let safes = rule_at s z i 4 (170 + 7 * i) lt (omega arith) (omega arith) in
-          let place = rule_at s z i 5 (171 + 7 * i) lt (omega arith) (omega arith) in
+          (let needs = rule_at s z i 3 (rules_at + 3 + rule_size * i) lt (omega arith) (omega arith) in
+          let safes = rule_at s z i 4 (rules_at + 4 + rule_size * i) lt (omega arith) (omega arith) in
+          let place = rule_at s z i 5 (rules_at + 5 + rule_size * i) lt (omega arith) (omega arith) in
           ⊎_elim (λ e. inl (needs ∙ e)) (λ o. inr (⊎_elim (λ e. inl (ap (λ x. eqb x 1) safes ∙ bit_one (rule s i).safes e)) (λ p. inr (ap may_put place ∙ place_may (rule s i).place p)) o)) (h.1 i).puts);
     }
 

@@ -5,7 +5,6 @@ use Rattle.std.proofs.lemmas.List.{get_or-set_same, get_or-set_other}
 use Rattle.rules.specs.declared.rule.Rule.{Rule}
 use Rattle.rules.specs.Watching.{off, is_past, next_count, acts}
 use Rattle.frame.specs.declared.Command.{Command}
-use Rattle.frame.specs.declared.Command.TheVariants.{Put, Later, Forget, Sleep, Wake, SetRule, Unknown}
 use Rattle.satellite.specs.State.{State, parameter, rule, count}
 use Rattle.satellite.specs.Story.{Inputs, begun, looked, counted, acted, watched_one, watched, done, at_release}
 use Rattle.satellite.proofs.Watching.{one_rules, watched_rules, count_before}
@@ -63,16 +62,16 @@ release_count i is k l lt =
 abbrev About : ℕ → State → State → Type 0
 About k s u = (rule u k ≡ rule s k) × (count u k ≡ count s k)
 
-done_about : (s : State) (c : Command) (k : ℕ) → ((r : Rule) → c ≡ SetRule k r → ⊥) → About k s (done s c)
-done_about s (Put a b) k f = (refl, refl)
-done_about s (Later a) k f = (refl, refl)
-done_about s Forget k f = (refl, refl)
-done_about s Sleep k f = (refl, refl)
-done_about s Wake k f = (refl, refl)
-done_about s (SetRule j r) k f = let n : k ≡ j → ⊥ = λ e. f r (ap (λ m. SetRule m r) (sym e)) in (get_or-set_other s.rules j k r off n, get_or-set_other s.counts j k 0 0 n)
-done_about s (Unknown n) k f = (refl, refl)
+done_about : (s : State) (c : Command) (k : ℕ) → ((r : Rule) → c ≡ Command.SetRule k r → ⊥) → About k s (done s c)
+done_about s (Command.Put a b) k f = (refl, refl)
+done_about s (Command.Later a) k f = (refl, refl)
+done_about s Command.Forget k f = (refl, refl)
+done_about s Command.Sleep k f = (refl, refl)
+done_about s Command.Wake k f = (refl, refl)
+done_about s (Command.SetRule j r) k f = let n : k ≡ j → ⊥ = λ e. f r (ap (λ m. Command.SetRule m r) (sym e)) in (get_or-set_other s.rules j k r off n, get_or-set_other s.counts j k 0 0 n)
+done_about s (Command.Unknown n) k f = (refl, refl)
 
-after_about : (i : Inputs) (is : List Inputs) (k : ℕ) → ((r : Rule) → Turn i is (SetRule k r) → ⊥) → About k (before_command i is) (after (i ∷ is))
+after_about : (i : Inputs) (is : List Inputs) (k : ℕ) → ((r : Rule) → Turn i is (Command.SetRule k r) → ⊥) → About k (before_command i is) (after (i ∷ is))
 after_about i is k f =
     let r = before_command i is in
     let e = expected_kept i (after is) in
@@ -86,7 +85,7 @@ rule_stays k r (i ∷ late) early e n =
     (after_about i (late ++ early) k n.0).0 ∙ ap (λ (rs : List Rule). get_or rs k off) (reception i (after (late ++ early))).rules ∙ rule_stays k r late early e n.1
 
 -- one more tick in which the rule was not set
-count_on : (k : ℕ) (i : Inputs) (is : List Inputs) → AllLawful machine is → k < 16 → ((r : Rule) → Turn i is (SetRule k r) → ⊥)
+count_on : (k : ℕ) (i : Inputs) (is : List Inputs) → AllLawful machine is → k < 16 → ((r : Rule) → Turn i is (Command.SetRule k r) → ⊥)
     → count (after (i ∷ is)) k ≡ next_count (rule (after is) k) (seen k i is) (count (after is) k)
 count_on k i is l lt f =
     (after_about i is k f).1 ∙ ap (λ (c : List ℕ). get_or c k 0) (reception i (after is)).counts ∙ release_count i is k l lt ∙ looked_at k (begun i.readings (after is))

@@ -5,7 +5,6 @@ use Rattle.std.proofs.lemmas.List.{get_or_past}
 use Rattle.schedule.specs.declared.activity.Activity.{Activity}
 use Rattle.rules.specs.declared.rule.Rule.{Rule}
 use Rattle.frame.specs.declared.Command.{Command}
-use Rattle.frame.specs.declared.Command.TheVariants.{Put, Later, Forget, Sleep, Wake, SetRule, Unknown}
 use Rattle.frame.specs.declared.Telecommand.{Telecommand}
 use Rattle.frame.specs.Frame.{all_small, check_of, is_whole, rule_of, command_of, decoded}
 use Rattle.frame.proofs.Smallness.{each_small}
@@ -28,13 +27,13 @@ pub record SmallActivity (a : Activity) : Type 0 where
 
 -- the numbers that a command leaves in the state
 abbrev pub SmallCommand : Command → Type 0
-SmallCommand (Put place number) = Small number
-SmallCommand (Later a) = SmallActivity a
-SmallCommand Forget = Unit {0}
-SmallCommand Sleep = Unit {0}
-SmallCommand Wake = Unit {0}
-SmallCommand (SetRule k r) = SmallRule r
-SmallCommand (Unknown kind) = Unit {0}
+SmallCommand (Command.Put place number) = Small number
+SmallCommand (Command.Later a) = SmallActivity a
+SmallCommand Command.Forget = Unit {0}
+SmallCommand Command.Sleep = Unit {0}
+SmallCommand Command.Wake = Unit {0}
+SmallCommand (Command.SetRule k r) = SmallRule r
+SmallCommand (Command.Unknown kind) = Unit {0}
 
 small_at : (f : List ℕ) → all_small f ≡ true → (k : ℕ) → Small (get_or f k 0)
 small_at f s k = ⊎_elim (λ (l : k < length f). each_small f s k l) (λ (l : length f ≤ k). rw (get_or_past f k 0 l) (omega arith)) (cases_lt k (length f))
@@ -45,12 +44,12 @@ either b x y p q = cond_both b x y SmallCommand (λ _. p) (λ _. q)
 command_small : (f : List ℕ) → all_small f ≡ true → SmallCommand (command_of f)
 command_small f s =
     let g = small_at f s in
-    either (eqb (get_or f 1 0) 0) (Put (get_or f 2 0) (get_or f 3 0)) _ (g 3)
-    (either (eqb (get_or f 1 0) 1) (Later (record { release = get_or f 2 0; place = get_or f 3 0; number = get_or f 4 0 })) _ (record { release = g 2; place = g 3; number = g 4 })
-    (either (eqb (get_or f 1 0) 2) Forget _ tt
-    (either (eqb (get_or f 1 0) 3) Sleep _ tt
-    (either (eqb (get_or f 1 0) 4) Wake _ tt
-    (either (eqb (get_or f 1 0) 5) (SetRule (get_or f 2 0) (rule_of f)) (Unknown (get_or f 1 0)) (record { watches = g 3; limit = g 4; needs = g 6; place = g 8; number = g 9 }) tt)))))
+    either (eqb (get_or f 1 0) 0) (Command.Put (get_or f 2 0) (get_or f 3 0)) _ (g 3)
+    (either (eqb (get_or f 1 0) 1) (Command.Later (record { release = get_or f 2 0; place = get_or f 3 0; number = get_or f 4 0 })) _ (record { release = g 2; place = g 3; number = g 4 })
+    (either (eqb (get_or f 1 0) 2) Command.Forget _ tt
+    (either (eqb (get_or f 1 0) 3) Command.Sleep _ tt
+    (either (eqb (get_or f 1 0) 4) Command.Wake _ tt
+    (either (eqb (get_or f 1 0) 5) (Command.SetRule (get_or f 2 0) (rule_of f)) (Command.Unknown (get_or f 1 0)) (record { watches = g 3; limit = g 4; needs = g 6; place = g 8; number = g 9 }) tt)))))
 
 pub decoded_small : (f : List ℕ) (t : Telecommand) → decoded f ≡ Some t → SmallCommand t.command
 decoded_small f t e =

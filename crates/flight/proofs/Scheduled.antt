@@ -4,7 +4,6 @@ use Rattle.std.proofs.lemmas.Bool.{cond_both, cond-true, cond-false}
 use Rattle.schedule.specs.declared.activity.Activity.{Activity}
 use Rattle.schedule.specs.Waiting.{due, put_all}
 use Rattle.frame.specs.declared.Command.{Command}
-use Rattle.frame.specs.declared.Command.TheVariants.{Put, Later, Forget, Sleep, Wake, SetRule, Unknown}
 use Rattle.frame.specs.declared.Telecommand.{Telecommand}
 use Rattle.satellite.specs.State.{State, parameter}
 use Rattle.satellite.specs.Story.{done, at_release, at_reception}
@@ -28,14 +27,14 @@ pub never_late : NeverLate
 never_late is a l m = (after_sound is l).0.later a m
 
 -- what a command does to the schedule
-done_schedule : (s : State) (c : Command) → (c ≡ Forget → ⊥) → ((done s c).schedule ≡ s.schedule) ⊎ ((a : Activity) × (c ≡ Later a) × ((done s c).schedule ≡ s.schedule ++ (a ∷ [])))
-done_schedule s (Put p n) f = inl refl
-done_schedule s (Later a) f = inr (a, refl, refl)
-done_schedule s Forget f = absurd (f refl)
-done_schedule s Sleep f = inl refl
-done_schedule s Wake f = inl refl
-done_schedule s (SetRule k r) f = inl refl
-done_schedule s (Unknown k) f = inl refl
+done_schedule : (s : State) (c : Command) → (c ≡ Command.Forget → ⊥) → ((done s c).schedule ≡ s.schedule) ⊎ ((a : Activity) × (c ≡ Command.Later a) × ((done s c).schedule ≡ s.schedule ++ (a ∷ [])))
+done_schedule s (Command.Put p n) f = inl refl
+done_schedule s (Command.Later a) f = inr (a, refl, refl)
+done_schedule s Command.Forget f = absurd (f refl)
+done_schedule s Command.Sleep f = inl refl
+done_schedule s Command.Wake f = inl refl
+done_schedule s (Command.SetRule k r) f = inl refl
+done_schedule s (Command.Unknown k) f = inl refl
 
 pub kept_till_due : KeptTillDue
 kept_till_due i is f =
@@ -43,9 +42,9 @@ kept_till_due i is f =
     let k = expected_kept i (after is) in
     let its : (t : Telecommand) (c : Command) → heard i is ≡ Some t → t.number ≡ r.expected → t.command ≡ c → Turn i is c =
     λ t c e n d. e ∙ (λ j. Some (record { number = (n ∙ k) j; command = d j })) in
-    ticked_cases (λ (u : State). (u.schedule ≡ r.schedule) ⊎ ((a : Activity) × Turn i is (Later a) × (u.schedule ≡ r.schedule ++ (a ∷ [])))) i (after is) (λ _. inl refl)
-    (λ t e. obeyed_cases t r (λ (u : State). (u.schedule ≡ r.schedule) ⊎ ((a : Activity) × Turn i is (Later a) × (u.schedule ≡ r.schedule ++ (a ∷ []))))
-    (λ n _. ⊎_elim inl (λ x. inr (x.0, its t (Later x.0) e n x.1, x.2)) (done_schedule r t.command (λ d. f (its t Forget e n d)))) (λ _ _. inl refl) (λ _. inl refl))
+    ticked_cases (λ (u : State). (u.schedule ≡ r.schedule) ⊎ ((a : Activity) × Turn i is (Command.Later a) × (u.schedule ≡ r.schedule ++ (a ∷ [])))) i (after is) (λ _. inl refl)
+    (λ t e. obeyed_cases t r (λ (u : State). (u.schedule ≡ r.schedule) ⊎ ((a : Activity) × Turn i is (Command.Later a) × (u.schedule ≡ r.schedule ++ (a ∷ []))))
+    (λ n _. ⊎_elim inl (λ x. inr (x.0, its t (Command.Later x.0) e n x.1, x.2)) (done_schedule r t.command (λ d. f (its t Command.Forget e n d)))) (λ _ _. inl refl) (λ _. inl refl))
 
 pub put_when_due : PutWhenDue
 put_when_due i is front back a (more j js l ls) awake e h =

@@ -7,7 +7,6 @@ use Rattle.schedule.specs.Waiting.{due, still_waiting, put_all}
 use Rattle.rules.specs.declared.rule.Rule.{Rule}
 use Rattle.rules.specs.Watching.{off, may_set}
 use Rattle.frame.specs.declared.Command.{Command}
-use Rattle.frame.specs.declared.Command.TheVariants.{Put, Later, Forget, Sleep, Wake, SetRule, Unknown}
 use Rattle.frame.specs.declared.Telecommand.{Telecommand}
 use Rattle.parameters.specs.Places.{may_put}
 use Rattle.satellite.specs.State.{State, rule}
@@ -120,20 +119,20 @@ set_sound : (rs : List Rule) (k : ℕ) (r : Rule) → k < length rs → RuleOk r
 set_sound rs k r l o h j = ⊎_elim (λ (e : j ≡ k). rw (e, get_or-set_same rs k r off l) o) (λ n. rw (get_or-set_other rs k j r off n) (h j)) (cases_eq j k)
 
 done_sound : (s : State) (c : Command) → can s c ≡ true → Sound s → Sound (done s c)
-done_sound s (Put a b) e h = (h.0, h.1, length-set s.parameters a b ∙ h.2, h.3, h.4)
-done_sound s (Later a) e h =
+done_sound s (Command.Put a b) e h = (h.0, h.1, length-set s.parameters a b ∙ h.2, h.3, h.4)
+done_sound s (Command.Later a) e h =
     let p = and_parts (may_put a.place) (ltb s.time a.release && ltb (length s.schedule) 32) e in
     let q = and_parts (ltb s.time a.release) (ltb (length s.schedule) 32) p.1 in
     (later_sound s.time s.schedule a (ltb-true s.time a.release q.0) (may_place a.place p.0) (ltb-true (length s.schedule) 32 q.1) h.0, h.1, h.2, h.3, h.4)
-done_sound s Forget e h = (no_waits s.time, h.1, h.2, h.3, h.4)
-done_sound s Sleep e h = h
-done_sound s Wake e h = h
-done_sound s (SetRule k r) e h =
+done_sound s Command.Forget e h = (no_waits s.time, h.1, h.2, h.3, h.4)
+done_sound s Command.Sleep e h = h
+done_sound s Command.Wake e h = h
+done_sound s (Command.SetRule k r) e h =
     let p = and_parts (ltb k 16) (may_set r) e in
     let l = ltb-true k 16 p.0 in
     let z = h.3 in
     (h.0, set_sound s.rules k r (omega arith) (rule_ok r p.1) h.1, h.2, length-set s.rules k r ∙ h.3, length-set s.counts k 0 ∙ h.4)
-done_sound s (Unknown n) e h = h
+done_sound s (Command.Unknown n) e h = h
 
 obeyed_sound : (t : Telecommand) (s : State) → Sound s → Sound (obeyed t s)
 obeyed_sound t s h = obeyed_cases t s Sound (λ _ e. done_sound s t.command e h) (λ _ _. h) (λ _. h)

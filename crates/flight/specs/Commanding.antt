@@ -1,7 +1,6 @@
 -- Commands over a line that loses, doubles and delays: each is obeyed once, in order, none left out.
 use Rattle.std.specs.Prelude.{◌≡◌, ℕ, zero, suc, true, cond, List, [], ◌∷◌, Some, None, Option, ◌==◌}
 use Rattle.frame.specs.declared.Command.{Command}
-use Rattle.frame.specs.declared.Command.TheVariants.{Sleep}
 use Rattle.frame.specs.declared.Telecommand.{Telecommand}
 use Rattle.satellite.specs.Story.{Inputs, received, at_reception}
 use Rattle.flight.specs.Flight.{after}
@@ -43,4 +42,4 @@ ComesThrough = (i : Inputs) (is : List Inputs) (c : Command) → Turn i is c →
 
 -- safe mode is had in the tick in which it is commanded
 abbrev pub SafeAtOnce : Type 0
-SafeAtOnce = (i : Inputs) (is : List Inputs) → Turn i is Sleep → (after (i ∷ is)).safe_mode ≡ true
+SafeAtOnce = (i : Inputs) (is : List Inputs) → Turn i is Command.Sleep → (after (i ∷ is)).safe_mode ≡ true

@@ -4,7 +4,6 @@ use Rattle.schedule.specs.declared.activity.Activity.{Activity}
 use Rattle.rules.specs.declared.rule.Rule.{Rule}
 use Rattle.rules.specs.Watching.{off}
 use Rattle.frame.specs.declared.Command.{Command}
-use Rattle.frame.specs.declared.Command.TheVariants.{Put, Later, Forget, Sleep, Wake, SetRule, Unknown}
 use Rattle.frame.specs.declared.Telecommand.{Telecommand}
 use Rattle.satellite.specs.State.{State, with_time, with_expected, with_safe_mode, with_rejected, with_missed, with_parameters, with_schedule, with_rules, with_counts, parameter, rule, count}
 use Rattle.satellite.specs.Story.{Inputs, can, at_reception}
@@ -26,28 +25,28 @@ Place a = (16 ≤ a) × (a ≤ 63)
 
 -- each command has its effect, and only that
 pub record CommandsAct : Type 0 where
-  pub put : (i : Inputs) (is : List Inputs) (a b : ℕ) → Turn i is (Put a b) → Place a → after (i ∷ is) ≡ with_parameters (slice_set (before_command i is).parameters a b) (next_expected i is)
-  pub later : (i : Inputs) (is : List Inputs) (a : Activity) → Turn i is (Later a) → Place a.place → (before_command i is).time < a.release → length (before_command i is).schedule < 32
+  pub put : (i : Inputs) (is : List Inputs) (a b : ℕ) → Turn i is (Command.Put a b) → Place a → after (i ∷ is) ≡ with_parameters (slice_set (before_command i is).parameters a b) (next_expected i is)
+  pub later : (i : Inputs) (is : List Inputs) (a : Activity) → Turn i is (Command.Later a) → Place a.place → (before_command i is).time < a.release → length (before_command i is).schedule < 32
       → after (i ∷ is) ≡ with_schedule ((before_command i is).schedule ++ (a ∷ [])) (next_expected i is)
-  pub forget : (i : Inputs) (is : List Inputs) → Turn i is Forget → after (i ∷ is) ≡ with_schedule [] (next_expected i is)
-  pub sleep : (i : Inputs) (is : List Inputs) → Turn i is Sleep → after (i ∷ is) ≡ with_safe_mode true (next_expected i is)
-  pub wake : (i : Inputs) (is : List Inputs) → Turn i is Wake → after (i ∷ is) ≡ with_safe_mode false (next_expected i is)
-  pub set_rule : (i : Inputs) (is : List Inputs) (k : ℕ) (r : Rule) → Turn i is (SetRule k r) → k < 16 → r.watches ≤ 63 → (r.safes ≡ true) ⊎ Place r.place
+  pub forget : (i : Inputs) (is : List Inputs) → Turn i is Command.Forget → after (i ∷ is) ≡ with_schedule [] (next_expected i is)
+  pub sleep : (i : Inputs) (is : List Inputs) → Turn i is Command.Sleep → after (i ∷ is) ≡ with_safe_mode true (next_expected i is)
+  pub wake : (i : Inputs) (is : List Inputs) → Turn i is Command.Wake → after (i ∷ is) ≡ with_safe_mode false (next_expected i is)
+  pub set_rule : (i : Inputs) (is : List Inputs) (k : ℕ) (r : Rule) → Turn i is (Command.SetRule k r) → k < 16 → r.watches ≤ 63 → (r.safes ≡ true) ⊎ Place r.place
       → after (i ∷ is) ≡ with_rules (slice_set (before_command i is).rules k r) (with_counts (slice_set (before_command i is).counts k 0) (next_expected i is))
 
 -- what cannot be done in a state
 pub data Undoable (s : State) : Command → Type 0 where
-  put_low : (a b : ℕ) → a < 16 → Undoable s (Put a b)
-  put_high : (a b : ℕ) → 63 < a → Undoable s (Put a b)
-  later_low : (a : Activity) → a.place < 16 → Undoable s (Later a)
-  later_high : (a : Activity) → 63 < a.place → Undoable s (Later a)
-  later_past : (a : Activity) → a.release ≤ s.time → Undoable s (Later a)
-  later_full : (a : Activity) → 32 ≤ length s.schedule → Undoable s (Later a)
-  rule_none : (k : ℕ) (r : Rule) → 16 ≤ k → Undoable s (SetRule k r)
-  rule_blind : (k : ℕ) (r : Rule) → 63 < r.watches → Undoable s (SetRule k r)
-  rule_low : (k : ℕ) (r : Rule) → r.safes ≡ false → r.place < 16 → Undoable s (SetRule k r)
-  rule_high : (k : ℕ) (r : Rule) → r.safes ≡ false → 63 < r.place → Undoable s (SetRule k r)
-  no_kind : (kind : ℕ) → Undoable s (Unknown kind)
+  put_low : (a b : ℕ) → a < 16 → Undoable s (Command.Put a b)
+  put_high : (a b : ℕ) → 63 < a → Undoable s (Command.Put a b)
+  later_low : (a : Activity) → a.place < 16 → Undoable s (Command.Later a)
+  later_high : (a : Activity) → 63 < a.place → Undoable s (Command.Later a)
+  later_past : (a : Activity) → a.release ≤ s.time → Undoable s (Command.Later a)
+  later_full : (a : Activity) → 32 ≤ length s.schedule → Undoable s (Command.Later a)
+  rule_none : (k : ℕ) (r : Rule) → 16 ≤ k → Undoable s (Command.SetRule k r)
+  rule_blind : (k : ℕ) (r : Rule) → 63 < r.watches → Undoable s (Command.SetRule k r)
+  rule_low : (k : ℕ) (r : Rule) → r.safes ≡ false → r.place < 16 → Undoable s (Command.SetRule k r)
+  rule_high : (k : ℕ) (r : Rule) → r.safes ≡ false → 63 < r.place → Undoable s (Command.SetRule k r)
+  no_kind : (kind : ℕ) → Undoable s (Command.Unknown kind)
 
 -- what is not its turn, or is not whole, is as if it had not come; what cannot be done changes the two counters and nothing else
 pub record ElseIgnored : Type 0 where

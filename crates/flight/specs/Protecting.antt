@@ -2,7 +2,7 @@
 use Rattle.std.specs.Prelude.{◌≡◌, ℕ, suc, ◌<◌, ◌≤◌, true, false, cond, ◌⊎◌, List, [], ◌∷◌, ◌++◌, ◌≢◌, slice_index}
 use Rattle.rules.specs.declared.rule.Rule.{Rule}
 use Rattle.rules.specs.Watching.{is_past}
-use Rattle.frame.specs.declared.Command.TheVariants.{SetRule}
+use Rattle.frame.specs.declared.Command.{Command}
 use Rattle.satellite.specs.State.{State, parameter, rule, count}
 use Rattle.satellite.specs.Story.{Inputs, begun, looked, counted, acted, watched_one, watched, at_release}
 use Rattle.flight.specs.Machine.{AllLawful}
@@ -29,7 +29,7 @@ seen k i is = parameter (at_look k i is) (rule (after is) k).watches
 -- rule k is not set anew in the later ticks
 abbrev pub Unset : ℕ → (late early : List Inputs) → Type 0
 Unset k [] early = Unit {0}
-Unset k (i ∷ late) early = ((r : Rule) → Turn i (late ++ early) (SetRule k r) → ⊥) × Unset k late early
+Unset k (i ∷ late) early = ((r : Rule) → Turn i (late ++ early) (Command.SetRule k r) → ⊥) × Unset k late early
 
 -- for how many of the latest ticks what the rule saw was past
 abbrev pub past_for : ℕ → Rule → (late early : List Inputs) → ℕ
@@ -55,7 +55,7 @@ InstrumentsRight =
 -- a rule that is set begins from 0
 abbrev pub BeginsAnew : Type 0
 BeginsAnew =
-    (i : Inputs) (is : List Inputs) (k : ℕ) (r : Rule) → AllLawful machine (i ∷ is) → Turn i is (SetRule k r) → k < 16 → r.watches ≤ 63 → (r.safes ≡ true) ⊎ ((16 ≤ r.place) × (r.place ≤ 63)) →
+    (i : Inputs) (is : List Inputs) (k : ℕ) (r : Rule) → AllLawful machine (i ∷ is) → Turn i is (Command.SetRule k r) → k < 16 → r.watches ≤ 63 → (r.safes ≡ true) ⊎ ((16 ≤ r.place) × (r.place ≤ 63)) →
     (rule (after (i ∷ is)) k ≡ r) × (count (after (i ∷ is)) k ≡ 0)
 
 -- rule k acts in a tick: it is on, and its count has just become what it needs

@@ -2,7 +2,7 @@
 use Rattle.std.specs.Prelude.{◌≡◌, ℕ, suc, ◌+◌, ◌<◌, true, false, cond, ◌⊎◌, List, [], ◌∷◌, ◌++◌, length, ◌≢◌}
 use Rattle.schedule.specs.declared.activity.Activity.{Activity}
 use Rattle.schedule.specs.Waiting.{due}
-use Rattle.frame.specs.declared.Command.TheVariants.{Later, Forget}
+use Rattle.frame.specs.declared.Command.{Command}
 use Rattle.satellite.specs.State.{parameter}
 use Rattle.satellite.specs.Story.{Inputs, at_release}
 use Rattle.flight.specs.Machine.{AllLawful}
@@ -33,9 +33,9 @@ NeverLate = (is : List Inputs) (a : Activity) → AllLawful machine is → Among
 -- what waits on after the release stays through the command, unless that is forget; a later that is done adds one behind; no other command touches it
 abbrev pub KeptTillDue : Type 0
 KeptTillDue =
-    (i : Inputs) (is : List Inputs) → (Turn i is Forget → ⊥) →
+    (i : Inputs) (is : List Inputs) → (Turn i is Command.Forget → ⊥) →
     ((after (i ∷ is)).schedule ≡ (before_command i is).schedule)
-    ⊎ ((a : Activity) × Turn i is (Later a) × ((after (i ∷ is)).schedule ≡ (before_command i is).schedule ++ (a ∷ [])))
+    ⊎ ((a : Activity) × Turn i is (Command.Later a) × ((after (i ∷ is)).schedule ≡ (before_command i is).schedule ++ (a ∷ [])))
 
 -- the last activity for its place among those that are due is what stands there once they are done, outside safe mode
 abbrev pub PutWhenDue : Type 0

@@ -12,7 +12,7 @@ use Rattle.memory.specs.Threefold.{voted_words, thrice}
 use Rattle.satellite.specs.State.{State, rule, count, at_launch}
 use Rattle.satellite.specs.Story.{Inputs, ticked}
 use Rattle.satellite.specs.Fit.{Fit, RuleFit, most}
-use Rattle.layout.specs.Map.{word_count, words_of, activity_at, rule_at, schedule_in, rules_in, state_of}
+use Rattle.layout.specs.Map.{word_count, words_of, activity_at, rule_at, schedule_in, rules_in, state_of, waiting_at, counts_at}
 use Rattle.layout.specs.Fault.{Faultless, Sane}
 use Rattle.layout.proofs.Sanity.{sane_of}
 use Rattle.layout.proofs.Places.{length_words}
@@ -35,13 +35,13 @@ rules_fit ws k s l = subst RuleFit (sym (get_or-map-range_with_len (rule_at ws) 
 
 counts_fit : (ws : List ℕ) (k : ℕ) → Sane ws → k < 16 → count (state_of ws) k ≤ most
 unfolding state_of
-counts_fit ws k s l = subst (λ n. n ≤ most) (sym (get_or-take 16 (drop 278 ws) k 0 l ∙ get_or-drop 278 ws k 0)) (s.small (278 + k) (omega arith))
+counts_fit ws k s l = subst (λ n. n ≤ most) (sym (get_or-take 16 (drop counts_at ws) k 0 l ∙ get_or-drop counts_at ws k 0)) (s.small (counts_at + k) (omega arith))
 
 placed_fit : (ws : List ℕ) → Sane ws → Placed (state_of ws).schedule
 unfolding state_of schedule_in
 placed_fit ws s k l =
-    let n : length (map (activity_at ws) (range_with_len 0 (get_or ws 69 0))) ≡ get_or ws 69 0 = length-map-range_with_len (activity_at ws) 0 (get_or ws 69 0) in
-    let e : get_or (map (activity_at ws) (range_with_len 0 (get_or ws 69 0))) k no_activity ≡ activity_at ws k = get_or-map-range_with_len (activity_at ws) 0 (get_or ws 69 0) k k no_activity (omega arith) (omega arith) in
+    let n : length (map (activity_at ws) (range_with_len 0 (get_or ws waiting_at 0))) ≡ get_or ws waiting_at 0 = length-map-range_with_len (activity_at ws) 0 (get_or ws waiting_at 0) in
+    let e : get_or (map (activity_at ws) (range_with_len 0 (get_or ws waiting_at 0))) k no_activity ≡ activity_at ws k = get_or-map-range_with_len (activity_at ws) 0 (get_or ws waiting_at 0) k k no_activity (omega arith) (omega arith) in
     subst (λ (a : Activity). a.place < 64) (sym e) (grind (arith, nat_tests, s.placed k (omega arith)))
 
 heads_fit : (ws : List ℕ) → Sane ws → ((state_of ws).time ≤ most) × ((state_of ws).expected ≤ most) × ((state_of ws).rejected ≤ most) × ((state_of ws).missed ≤ most)

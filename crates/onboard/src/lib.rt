@@ -2,11 +2,11 @@
 
 #![tactic(auto)]
 
-ghost use Rattle.std.specs.Prelude.{◌≡◌, ◌≤◌, length, slice_index, Some, None, Err, MatchResult};
+ghost use Rattle.std.specs.Prelude.{◌≡◌, ◌*◌, ◌≤◌, length, slice_index, Some, None, Err, MatchResult};
 ghost use Rattle.memory.specs.Threefold.{thrice};
 ghost use Rattle.satellite.specs.Fit.{Fit};
 ghost use Rattle.satellite.specs.Model.{model};
-ghost use Rattle.layout.specs.Map.{words_of, state_of};
+ghost use Rattle.layout.specs.Map.{words_of, state_of, waiting_at, word_count};
 ghost use Rattle.telemetry.specs.Reports.{report_of, numbers_of};
 ghost use Rattle.onboard.specs.Entry.{refusal_number, refusal_place, refusal_text, wrong_length, refused_for, tick_of_words, Says, GoesOn, Launches};
 
@@ -105,14 +105,14 @@ pub fn tick(
 // The tick of words that say a satellite. By itself, so that the compiler sees each copy of a satellite close to what makes it.
 fn advance(
     memory: &mut [u64],
-    words: &[u64; 294],
+    words: &[u64; WORDS],
     readings: &[u16; 16],
     frame: &[u64],
     report: &mut [u64],
 )
-    requires long { length memory.old ≡ 882 }
+    requires long { length memory.old ≡ 3 * word_count }
     requires told { length report.old ≡ 8 }
-    requires few { slice_index words.now 69 ≤ 32 }
+    requires few { slice_index words.now waiting_at ≤ 32 }
     requires fit { Fit (state_of words.now) }
     ensures kept { memory.new ≡ thrice (words_of (tick_of_words words.now readings.now frame.now)) }
     ensures told { report.new ≡ numbers_of (report_of (tick_of_words words.now readings.now frame.now)) }
@@ -124,7 +124,7 @@ fn advance(
 
 // Writes the words of a satellite three times. (There always is a first copy: the `requires` says so.)
 fn write_back(memory: &mut [u64], satellite: &Satellite)
-    requires { length memory.old ≡ 882 }
+    requires { length memory.old ≡ 3 * word_count }
     ensures { memory.new ≡ thrice (words_of (model satellite.now)) }
 {
     if let Some(first) = memory.first_chunk_mut::<WORDS>() {
