@@ -13,7 +13,7 @@ use Rattle.satellite.specs.Story.{Inputs, begun, looked, watched_one, watched, c
 use Rattle.satellite.proofs.Watching.{watched_rules}
 use Rattle.flight.specs.Flight.{Lawful, after}
 use Rattle.flight.specs.Commanding.{heard, Turn}
-use Rattle.flight.specs.Effects.{before_command, Place, CommandsAct, Undoable, put_low, put_high, later_low, later_high, later_past, later_full, rule_none, rule_blind, rule_low, rule_high, no_kind, ElseIgnored, ReadsRight, KeepsSizes, TimeRight, turned_down, rejections, RejectedRight, LaunchesRight}
+use Rattle.flight.specs.Effects.{Place, CommandsAct, Undoable, put_low, put_high, later_low, later_high, later_past, later_full, rule_none, rule_blind, rule_low, rule_high, no_kind, ElseIgnored, ReadsRight, KeepsSizes, TimeRight, turned_down, rejections, RejectedRight, LaunchesRight}
 use Rattle.flight.proofs.Steps.{obeyed_cases, ticked_cases, ticked_heard, one_cases, watched_zero, watched_suc, begun_low, release_is, reception}
 use Rattle.flight.proofs.Waits.{parts, among_due, put_other}
 use Rattle.flight.proofs.Sound.{may_place, RuleOk, RulesSound, Sound, after_sound, after_sized}
@@ -43,7 +43,7 @@ undoable_cannot s c (rule_high k r e l) = and_right (ltb k 16) (may_set r) (blin
 undoable_cannot s c (no_kind k) = refl
 
 -- a command whose turn it is, and that can be done, or not
-its_turn : (i : Inputs) (is : List Inputs) (c : Command) → Turn i is c → can (before_command i is) c ≡ true → after (i ∷ is) ≡ with_expected (suc (after is).expected) (done (before_command i is) c)
+its_turn : (i : Inputs) (is : List Inputs) (c : Command) → Turn i is c → can (at_reception i (after is)) c ≡ true → after (i ∷ is) ≡ with_expected (suc (after is).expected) (done (at_reception i (after is)) c)
 its_turn i is c e can-do =
     let t : Telecommand = record { number = (after is).expected; command = c } in
     let r = at_reception i (after is) in
@@ -52,7 +52,7 @@ its_turn i is c e can-do =
     ∙ obeyed_cases t r (λ u. u ≡ with_expected (suc (after is).expected) (done r c)) (λ _ _. ap (λ n. with_expected (suc n) (done r c)) (done_expected r c ∙ k))
     (λ _ f. absurd (true≢false (sym can-do ∙ f))) (λ f. absurd (f (sym k)))
 
-not_done : (i : Inputs) (is : List Inputs) (c : Command) → Turn i is c → can (before_command i is) c ≡ false → after (i ∷ is) ≡ with_expected (suc (after is).expected) (rejecting (before_command i is))
+not_done : (i : Inputs) (is : List Inputs) (c : Command) → Turn i is c → can (at_reception i (after is)) c ≡ false → after (i ∷ is) ≡ with_expected (suc (after is).expected) (rejecting (at_reception i (after is)))
 not_done i is c e cannot =
     let t : Telecommand = record { number = (after is).expected; command = c } in
     let r = at_reception i (after is) in
@@ -69,8 +69,8 @@ can_set k r l w o =
 pub commands_act : CommandsAct
 commands_act = record {
   put = λ i is a b e p. its_turn i is (Command.Put a b) e (place_may a p);
-  later = λ i is a e p l n. its_turn i is (Command.Later a) e (and_from (may_put a.place) (ltb (before_command i is).time a.release && ltb (length (before_command i is).schedule) 32) (place_may a.place p)
-      (and_from (ltb (before_command i is).time a.release) (ltb (length (before_command i is).schedule) 32) (lt-ltb (before_command i is).time a.release l) (lt-ltb (length (before_command i is).schedule) 32 n)));
+  later = λ i is a e p l n. its_turn i is (Command.Later a) e (and_from (may_put a.place) (ltb (at_reception i (after is)).time a.release && ltb (length (at_reception i (after is)).schedule) 32) (place_may a.place p)
+      (and_from (ltb (at_reception i (after is)).time a.release) (ltb (length (at_reception i (after is)).schedule) 32) (lt-ltb (at_reception i (after is)).time a.release l) (lt-ltb (length (at_reception i (after is)).schedule) 32 n)));
   forget = λ i is e. its_turn i is Command.Forget e refl;
   sleep = λ i is e. its_turn i is Command.Sleep e refl;
   wake = λ i is e. its_turn i is Command.Wake e refl;
@@ -81,7 +81,7 @@ pub else_ignored : ElseIgnored
 else_ignored = record {
   nothing_came = λ i is e. ticked_heard i (after is) None e;
   not_its_turn = λ i is t e f. ticked_heard i (after is) (Some t) e ∙ obeyed_else t (at_reception i (after is)) (λ d. f (d ∙ expected_kept i (after is)));
-  undoable = λ i is c e u. not_done i is c e (undoable_cannot (before_command i is) c u);
+  undoable = λ i is c e u. not_done i is c e (undoable_cannot (at_reception i (after is)) c u);
 }
 
 -- no rule, activity or command puts where instruments are read
@@ -126,7 +126,7 @@ reads_right i is k l ls h =
     (λ t _. obeyed_cases t r (λ (u : State). parameter u k ≡ get_or i.readings k 0) (λ _ c. done_low r t.command k c h ∙ e) (λ _ _. e) (λ _. e))
 
 pub keeps_sizes : KeepsSizes
-keeps_sizes is l = let z = after_sized is l in record { parameters = z.parameters; schedule = z.schedule; rules = z.rules; counts = z.counts }
+keeps_sizes = after_sized
 
 -- counters that no command changes
 pub done_counters : (s : State) (c : Command) → ((done s c).time ≡ s.time) × ((done s c).rejected ≡ s.rejected) × ((done s c).missed ≡ s.missed)

@@ -11,7 +11,6 @@ use Rattle.satellite.proofs.Watching.{one_rules, watched_rules, count_before}
 use Rattle.flight.specs.Machine.{AllLawful, more}
 use Rattle.flight.specs.Flight.{machine, after}
 use Rattle.flight.specs.Commanding.{Turn}
-use Rattle.flight.specs.Effects.{before_command}
 use Rattle.flight.specs.Protecting.{PastRight, at_look, seen, Unset, CountsRight, InstrumentsRight, BeginsAnew, Acting, ActsJustThen, SafeByRules, RulesPut, ElseUntouched}
 use Rattle.flight.proofs.Steps.{obeyed_cases, ticked_cases, one_cases, watched_zero, watched_suc, begun_low, begun_high, release_is, reception}
 use Rattle.flight.proofs.Sound.{RuleOk, after_sound, reception_sound, watched_sizes, release_sizes}
@@ -71,9 +70,9 @@ done_about s Command.Wake k f = (refl, refl)
 done_about s (Command.SetRule j r) k f = let n : k ≡ j → ⊥ = λ e. f r (ap (λ m. Command.SetRule m r) (sym e)) in (get_or-set_other s.rules j k r off n, get_or-set_other s.counts j k 0 0 n)
 done_about s (Command.Unknown n) k f = (refl, refl)
 
-after_about : (i : Inputs) (is : List Inputs) (k : ℕ) → ((r : Rule) → Turn i is (Command.SetRule k r) → ⊥) → About k (before_command i is) (after (i ∷ is))
+after_about : (i : Inputs) (is : List Inputs) (k : ℕ) → ((r : Rule) → Turn i is (Command.SetRule k r) → ⊥) → About k (at_reception i (after is)) (after (i ∷ is))
 after_about i is k f =
-    let r = before_command i is in
+    let r = at_reception i (after is) in
     let e = expected_kept i (after is) in
     ticked_cases (About k r) i (after is) (λ _. (refl, refl))
     (λ t h. obeyed_cases t r (About k r)
@@ -115,7 +114,7 @@ begins_anew i is k r (more j js l ls) e lt w o =
     let h = reception_sound i (after is) l (after_sound is ls) in
     let a = h.3 in
     let b = h.4 in
-    (ap (λ (u : State). rule u k) d ∙ get_or-set_same (before_command i is).rules k r off (omega arith), ap (λ (u : State). count u k) d ∙ get_or-set_same (before_command i is).counts k 0 0 (omega arith))
+    (ap (λ (u : State). rule u k) d ∙ get_or-set_same (at_reception i (after is)).rules k r off (omega arith), ap (λ (u : State). count u k) d ∙ get_or-set_same (at_reception i (after is)).counts k 0 0 (omega arith))
 
 acts_of : (r : Rule) (n : ℕ) → 1 ≤ r.needs → n ≡ r.needs → acts r n ≡ true
 acts_of r n a b = and_from (leb 1 r.needs) (eqb n r.needs) (le-leb 1 r.needs a) (eq-eqb n r.needs b)

@@ -10,7 +10,6 @@ use Rattle.satellite.specs.Story.{done, at_release, at_reception}
 use Rattle.flight.specs.Machine.{more}
 use Rattle.flight.specs.Flight.{after}
 use Rattle.flight.specs.Commanding.{heard, Turn}
-use Rattle.flight.specs.Effects.{before_command}
 use Rattle.flight.specs.Scheduling.{Among, Parts, PartsInTick, NeverLate, KeptTillDue, PutWhenDue, ElseKept, MissedInSafeMode, misses, MissedRight}
 use Rattle.flight.proofs.Steps.{obeyed_cases, ticked_cases, reception}
 use Rattle.flight.proofs.Waits.{parts, among_due, among_middle, put_other, put_last}
@@ -38,7 +37,7 @@ done_schedule s (Command.Unknown k) f = inl refl
 
 pub kept_till_due : KeptTillDue
 kept_till_due i is f =
-    let r = before_command i is in
+    let r = at_reception i (after is) in
     let k = expected_kept i (after is) in
     let its : (t : Telecommand) (c : Command) → heard i is ≡ Some t → t.number ≡ r.expected → t.command ≡ c → Turn i is c =
     λ t c e n d. e ∙ (λ j. Some (record { number = (n ∙ k) j; command = d j })) in

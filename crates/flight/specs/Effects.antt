@@ -7,17 +7,14 @@ use Rattle.frame.specs.declared.Command.{Command}
 use Rattle.frame.specs.declared.Telecommand.{Telecommand}
 use Rattle.satellite.specs.State.{State, with_time, with_expected, with_safe_mode, with_rejected, with_missed, with_parameters, with_schedule, with_rules, with_counts, parameter, rule, count}
 use Rattle.satellite.specs.Story.{Inputs, can, at_reception}
+use Rattle.layout.specs.Map.{Sized}
 use Rattle.flight.specs.Flight.{Lawful, machine, after}
 use Rattle.flight.specs.Machine.{AllLawful}
 use Rattle.flight.specs.Commanding.{heard, Turn}
 
--- the state in which the frame of a tick is looked at
-abbrev pub before_command : Inputs → List Inputs → State
-before_command i is = at_reception i (after is)
-
 -- that state with the next command expected
 abbrev pub next_expected : Inputs → List Inputs → State
-next_expected i is = with_expected (suc (after is).expected) (before_command i is)
+next_expected i is = with_expected (suc (after is).expected) (at_reception i (after is))
 
 -- numbers may be put at places 16 to 63
 abbrev pub Place : ℕ → Type 0
@@ -25,14 +22,14 @@ Place a = (16 ≤ a) × (a ≤ 63)
 
 -- each command has its effect, and only that
 pub record CommandsAct : Type 0 where
-  pub put : (i : Inputs) (is : List Inputs) (a b : ℕ) → Turn i is (Command.Put a b) → Place a → after (i ∷ is) ≡ with_parameters (slice_set (before_command i is).parameters a b) (next_expected i is)
-  pub later : (i : Inputs) (is : List Inputs) (a : Activity) → Turn i is (Command.Later a) → Place a.place → (before_command i is).time < a.release → length (before_command i is).schedule < 32
-      → after (i ∷ is) ≡ with_schedule ((before_command i is).schedule ++ (a ∷ [])) (next_expected i is)
+  pub put : (i : Inputs) (is : List Inputs) (a b : ℕ) → Turn i is (Command.Put a b) → Place a → after (i ∷ is) ≡ with_parameters (slice_set (at_reception i (after is)).parameters a b) (next_expected i is)
+  pub later : (i : Inputs) (is : List Inputs) (a : Activity) → Turn i is (Command.Later a) → Place a.place → (at_reception i (after is)).time < a.release → length (at_reception i (after is)).schedule < 32
+      → after (i ∷ is) ≡ with_schedule ((at_reception i (after is)).schedule ++ (a ∷ [])) (next_expected i is)
   pub forget : (i : Inputs) (is : List Inputs) → Turn i is Command.Forget → after (i ∷ is) ≡ with_schedule [] (next_expected i is)
   pub sleep : (i : Inputs) (is : List Inputs) → Turn i is Command.Sleep → after (i ∷ is) ≡ with_safe_mode true (next_expected i is)
   pub wake : (i : Inputs) (is : List Inputs) → Turn i is Command.Wake → after (i ∷ is) ≡ with_safe_mode false (next_expected i is)
   pub set_rule : (i : Inputs) (is : List Inputs) (k : ℕ) (r : Rule) → Turn i is (Command.SetRule k r) → k < 16 → r.watches ≤ 63 → (r.safes ≡ true) ⊎ Place r.place
-      → after (i ∷ is) ≡ with_rules (slice_set (before_command i is).rules k r) (with_counts (slice_set (before_command i is).counts k 0) (next_expected i is))
+      → after (i ∷ is) ≡ with_rules (slice_set (at_reception i (after is)).rules k r) (with_counts (slice_set (at_reception i (after is)).counts k 0) (next_expected i is))
 
 -- what cannot be done in a state
 pub data Undoable (s : State) : Command → Type 0 where
@@ -50,10 +47,10 @@ pub data Undoable (s : State) : Command → Type 0 where
 
 -- what is not its turn, or is not whole, is as if it had not come; what cannot be done changes the two counters and nothing else
 pub record ElseIgnored : Type 0 where
-  pub nothing_came : (i : Inputs) (is : List Inputs) → heard i is ≡ None → after (i ∷ is) ≡ before_command i is
-  pub not_its_turn : (i : Inputs) (is : List Inputs) (t : Telecommand) → heard i is ≡ Some t → (t.number ≢ (after is).expected) → after (i ∷ is) ≡ before_command i is
-  pub undoable : (i : Inputs) (is : List Inputs) (c : Command) → Turn i is c → Undoable (before_command i is) c
-      → after (i ∷ is) ≡ with_rejected (suc (before_command i is).rejected) (next_expected i is)
+  pub nothing_came : (i : Inputs) (is : List Inputs) → heard i is ≡ None → after (i ∷ is) ≡ at_reception i (after is)
+  pub not_its_turn : (i : Inputs) (is : List Inputs) (t : Telecommand) → heard i is ≡ Some t → (t.number ≢ (after is).expected) → after (i ∷ is) ≡ at_reception i (after is)
+  pub undoable : (i : Inputs) (is : List Inputs) (c : Command) → Turn i is c → Undoable (at_reception i (after is)) c
+      → after (i ∷ is) ≡ with_rejected (suc (at_reception i (after is)).rejected) (next_expected i is)
 
 -- until its command a tick leaves the expected number, the rejected ones and the rules as they were, and time goes on by one
 abbrev pub TickKeeps : Type 0
@@ -68,14 +65,8 @@ abbrev pub ReadsRight : Type 0
 ReadsRight = (i : Inputs) (is : List Inputs) (k : ℕ) → Lawful i → AllLawful machine is → k < 16 → parameter (after (i ∷ is)) k ≡ slice_index i.readings k
 
 -- there are always 64 parameters, at most 32 activities, 16 rules and 16 counts
-pub record Sizes (s : State) : Type 0 where
-  pub parameters : length s.parameters ≡ 64
-  pub schedule : length s.schedule ≤ 32
-  pub rules : length s.rules ≡ 16
-  pub counts : length s.counts ≡ 16
-
 abbrev pub KeepsSizes : Type 0
-KeepsSizes = (is : List Inputs) → AllLawful machine is → Sizes (after is)
+KeepsSizes = (is : List Inputs) → AllLawful machine is → Sized (after is)
 
 -- time is the number of ticks
 abbrev pub TimeRight : Type 0
@@ -88,7 +79,7 @@ turned_down (Some t) s = cond (t.number == s.expected && not (can s t.command)) 
 
 abbrev pub rejections : List Inputs → ℕ
 rejections [] = 0
-rejections (i ∷ is) = rejections is + turned_down (heard i is) (before_command i is)
+rejections (i ∷ is) = rejections is + turned_down (heard i is) (at_reception i (after is))
 
 abbrev pub RejectedRight : Type 0
 RejectedRight = (is : List Inputs) → (after is).rejected ≡ rejections is

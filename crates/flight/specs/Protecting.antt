@@ -8,7 +8,6 @@ use Rattle.satellite.specs.Story.{Inputs, begun, looked, counted, acted, watched
 use Rattle.flight.specs.Machine.{AllLawful}
 use Rattle.flight.specs.Flight.{machine, after}
 use Rattle.flight.specs.Commanding.{Turn}
-use Rattle.flight.specs.Effects.{before_command}
 use Rattle.flight.specs.Scheduling.{NoneDue}
 
 -- past its limit, in words: upward from the limit on, downward down from it
@@ -86,10 +85,10 @@ pub record Putting (k p : ℕ) (i : Inputs) (is : List Inputs) : Type 0 where
 abbrev pub RulesPut : Type 0
 RulesPut =
     (i : Inputs) (is : List Inputs) (k p : ℕ) → AllLawful machine (i ∷ is) → Putting k p i is → ((j : ℕ) → k < j → Putting j p i is → ⊥) → NoneDue p is →
-    parameter (before_command i is) p ≡ (rule (after is) k).number
+    parameter (at_reception i (after is)) p ≡ (rule (after is) k).number
 
 -- a parameter that is no instrument's changes only by a rule that acts, an activity that is due, or a command
 abbrev pub ElseUntouched : Type 0
 ElseUntouched =
     (i : Inputs) (is : List Inputs) (p : ℕ) → AllLawful machine (i ∷ is) → 16 ≤ p → ((k : ℕ) → Putting k p i is → ⊥) → NoneDue p is →
-    parameter (before_command i is) p ≡ parameter (after is) p
+    parameter (at_reception i (after is)) p ≡ parameter (after is) p

@@ -8,7 +8,6 @@ use Rattle.satellite.specs.Story.{Inputs, at_release}
 use Rattle.flight.specs.Machine.{AllLawful}
 use Rattle.flight.specs.Flight.{machine, after}
 use Rattle.flight.specs.Commanding.{Turn}
-use Rattle.flight.specs.Effects.{before_command}
 
 pub data Among {A : Type 0} (x : A) : List A → Type 0 where
   here : (xs : List A) → Among x (x ∷ xs)
@@ -24,7 +23,7 @@ pub data Parts (now : ℕ) : (all due others : List Activity) → Type 0 where
 abbrev pub PartsInTick : Type 0
 PartsInTick =
     (i : Inputs) (is : List Inputs) →
-    Parts (suc (after is).time) (after is).schedule (due (suc (after is).time) (after is).schedule) (before_command i is).schedule
+    Parts (suc (after is).time) (after is).schedule (due (suc (after is).time) (after is).schedule) (at_reception i (after is)).schedule
 
 -- none is kept past its time
 abbrev pub NeverLate : Type 0
@@ -34,15 +33,15 @@ NeverLate = (is : List Inputs) (a : Activity) → AllLawful machine is → Among
 abbrev pub KeptTillDue : Type 0
 KeptTillDue =
     (i : Inputs) (is : List Inputs) → (Turn i is Command.Forget → ⊥) →
-    ((after (i ∷ is)).schedule ≡ (before_command i is).schedule)
-    ⊎ ((a : Activity) × Turn i is (Command.Later a) × ((after (i ∷ is)).schedule ≡ (before_command i is).schedule ++ (a ∷ [])))
+    ((after (i ∷ is)).schedule ≡ (at_reception i (after is)).schedule)
+    ⊎ ((a : Activity) × Turn i is (Command.Later a) × ((after (i ∷ is)).schedule ≡ (at_reception i (after is)).schedule ++ (a ∷ [])))
 
 -- the last activity for its place among those that are due is what stands there once they are done, outside safe mode
 abbrev pub PutWhenDue : Type 0
 PutWhenDue =
     (i : Inputs) (is : List Inputs) (front back : List Activity) (a : Activity) → AllLawful machine (i ∷ is) → (at_release i (after is)).safe_mode ≡ false →
     due (suc (after is).time) (after is).schedule ≡ front ++ (a ∷ back) → ((b : Activity) → Among b back → b.place ≢ a.place) →
-    parameter (before_command i is) a.place ≡ a.number
+    parameter (at_reception i (after is)) a.place ≡ a.number
 
 -- no activity for a place is due in the next tick
 abbrev pub NoneDue : ℕ → List Inputs → Type 0
@@ -50,14 +49,14 @@ NoneDue p is = (a : Activity) → Among a (after is).schedule → a.release ≡ 
 
 -- such a place keeps what the rules left there
 abbrev pub ElseKept : Type 0
-ElseKept = (i : Inputs) (is : List Inputs) (p : ℕ) → NoneDue p is → parameter (before_command i is) p ≡ parameter (at_release i (after is)) p
+ElseKept = (i : Inputs) (is : List Inputs) (p : ℕ) → NoneDue p is → parameter (at_reception i (after is)) p ≡ parameter (at_release i (after is)) p
 
 -- in safe mode no parameter changes by an activity, and each that is due is counted as missed
 abbrev pub MissedInSafeMode : Type 0
 MissedInSafeMode =
     (i : Inputs) (is : List Inputs) → (at_release i (after is)).safe_mode ≡ true →
-    ((before_command i is).parameters ≡ (at_release i (after is)).parameters)
-    × ((before_command i is).missed ≡ (after is).missed + length (due (suc (after is).time) (after is).schedule))
+    ((at_reception i (after is)).parameters ≡ (at_release i (after is)).parameters)
+    × ((at_reception i (after is)).missed ≡ (after is).missed + length (due (suc (after is).time) (after is).schedule))
 
 -- over the whole flight missed counts just these
 abbrev pub misses : List Inputs → ℕ

@@ -40,8 +40,8 @@ Small ws = (k : ℕ) → k < word_count → slice_index ws k ≤ most
 abbrev pub Later : List ℕ → ℕ → Type 0
 Later ws i = slice_index ws 0 < slice_index ws (activities_at + activity_size * i)
 
-abbrev pub Placed : List ℕ → ℕ → Type 0
-Placed ws i = may_put (slice_index ws (activities_at + 1 + activity_size * i)) ≡ true
+abbrev pub MayPut : List ℕ → ℕ → Type 0
+MayPut ws i = may_put (slice_index ws (activities_at + 1 + activity_size * i)) ≡ true
 
 abbrev pub Watches : List ℕ → ℕ → Type 0
 Watches ws i = slice_index ws (rules_at + rule_size * i) < 64
@@ -53,7 +53,7 @@ pub record Sane (ws : List ℕ) : Type 0 where
   pub small : Small ws
   pub few : slice_index_or ws waiting_at 0 ≤ 32
   pub later : (i : ℕ) → i < slice_index ws waiting_at → Later ws i
-  pub placed : (i : ℕ) → i < slice_index ws waiting_at → Placed ws i
+  pub placed : (i : ℕ) → i < slice_index ws waiting_at → MayPut ws i
   pub watches : (i : ℕ) → i < 16 → Watches ws i
   pub puts : (i : ℕ) → i < 16 → Puts ws i
 

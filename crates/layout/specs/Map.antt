@@ -14,7 +14,7 @@ use Rattle.std.specs.Prelude.{◌≡◌, ℕ, ◌+◌, ◌-◌, ◌*◌, ◌≤�
 use Rattle.std.specs.List.{range_with_len, flat_map}
 use Rattle.schedule.specs.declared.activity.Activity.{Activity}
 use Rattle.rules.specs.declared.rule.Rule.{Rule}
-use Rattle.rules.specs.declared.rule.Watch.{Watch}
+use Rattle.rules.specs.declared.rule.Monitor.{Monitor}
 use Rattle.schedule.specs.Numbers.{activity_numbers}
 use Rattle.rules.specs.Numbers.{rule_numbers}
 use Rattle.satellite.specs.State.{State}
@@ -94,8 +94,8 @@ rule_at ws k = record {
 }
 
 -- a rule beside its count
-abbrev pub watch_at : List ℕ → ℕ → Watch
-watch_at ws k = record { rule = rule_at ws k; count = slice_index ws (counts_at + k) }
+abbrev pub monitor_at : List ℕ → ℕ → Monitor
+monitor_at ws k = record { rule = rule_at ws k; count = slice_index ws (counts_at + k) }
 
 unfoldable pub schedule_in : List ℕ → List Activity
 schedule_in ws = map (activity_at ws) (range_with_len 0 (slice_index ws waiting_at))

@@ -1,10 +1,10 @@
 ghost use Rattle.layout.specs.Map.{waiting_at, activities_at, rules_at, counts_at, word_count};
 ghost use Rattle.std.specs.Prelude.{◌≡◌, ℕ, ◌<◌, ◌≤◌, true, ◌⊎◌, slice_index};
 ghost use Rattle.parameters.specs.Places.{may_put};
-ghost use Rattle.layout.specs.Fault.{activity_fault, rule_fault, at_fault, Lowest, Small, Later, Placed, Watches, Puts, Sane, FaultsRight};
+ghost use Rattle.layout.specs.Fault.{activity_fault, rule_fault, at_fault, Lowest, Small, Later, MayPut, Watches, Puts, Sane, FaultsRight};
 
 use crate::map::{ACTIVITIES, ACTIVITY, COUNTS, RULE, RULES, TIME, WAITING, WORDS};
-use crate::read::{activity, watch};
+use crate::read::{activity, monitor};
 use parameters::{PLACES, may_put};
 use rules::{COUNT, Rule};
 use schedule::{Activity, ROOM};
@@ -39,7 +39,7 @@ fn small(words: &[u64; WORDS]) -> bool
 
 fn activities_sane(words: &[u64; WORDS]) -> bool
     requires { slice_index words.now waiting_at ≤ 32 }
-    ensures { result ≡ true → ((i : ℕ) → i < slice_index words.now waiting_at → Later words.now i × Placed words.now i) }
+    ensures { result ≡ true → ((i : ℕ) → i < slice_index words.now waiting_at → Later words.now i × MayPut words.now i) }
 {
     (0..words[WAITING] as usize).all(|i| activity_sane(words[TIME], activity(words, i)))
 }
@@ -53,7 +53,7 @@ fn activity_sane(time: u64, activity: Activity) -> bool
 fn rules_sane(words: &[u64; WORDS]) -> bool
     ensures { result ≡ true → ((i : ℕ) → i < 16 → Watches words.now i × Puts words.now i) }
 {
-    (0..COUNT).all(|i| rule_sane(watch(words, i).rule))
+    (0..COUNT).all(|i| rule_sane(monitor(words, i).rule))
 }
 
 fn rule_sane(rule: Rule) -> bool

@@ -1,14 +1,14 @@
 ghost use Rattle.std.specs.Prelude.{◌≡◌, ◌+◌, ◌<◌, ◌≤◌, map, take, drop, slice_index};
 ghost use Rattle.std.specs.List.{range_with_len};
-ghost use Rattle.rules.specs.Watches.{rule_of, count_of};
+ghost use Rattle.rules.specs.Monitors.{rule_of, count_of};
 ghost use Rattle.satellite.specs.Model.{model};
-ghost use Rattle.layout.specs.Map.{activity_at, watch_at, rules_in, state_of, waiting_at, counts_at, word_count};
+ghost use Rattle.layout.specs.Map.{activity_at, monitor_at, rules_in, state_of, waiting_at, counts_at, word_count};
 
 use crate::map::{
     ACTIVITIES, ACTIVITY, COUNTS, EXPECTED, MISSED, PARAMETERS, REJECTED, RULE, RULES, SAFE_MODE,
     TIME, WAITING, WORDS,
 };
-use rules::{Rule, Watch};
+use rules::{Rule, Monitor};
 use satellite::Satellite;
 use schedule::Activity;
 
@@ -39,7 +39,7 @@ fn fill(words: &[u64; WORDS], satellite: &mut Satellite)
         .copy_from_slice(&words[PARAMETERS..WAITING]);
     satellite.schedule.count = words[WAITING] as usize;
     fill_activities(words, &mut satellite.schedule.activities);
-    fill_watches(words, &mut satellite.rules.watches);
+    fill_monitors(words, &mut satellite.rules.monitors);
 }
 
 // All that there is room for, whether they wait or not.
@@ -58,20 +58,20 @@ pub(crate) fn activity(words: &[u64; WORDS], k: usize) -> Activity
     Activity::from(part(words, ACTIVITIES + ACTIVITY * k))
 }
 
-fn fill_watches(words: &[u64; WORDS], watches: &mut [Watch; 16])
-    ensures rules { map rule_of watches.new ≡ rules_in words.now }
-    ensures counts { map count_of watches.new ≡ take 16 (drop counts_at words.now) }
+fn fill_monitors(words: &[u64; WORDS], monitors: &mut [Monitor; 16])
+    ensures rules { map rule_of monitors.new ≡ rules_in words.now }
+    ensures counts { map count_of monitors.new ≡ take 16 (drop counts_at words.now) }
 {
-    for (k, room) in watches.iter_mut().enumerate() {
-        *room = watch(words, k);
+    for (k, room) in monitors.iter_mut().enumerate() {
+        *room = monitor(words, k);
     }
 }
 
-pub(crate) fn watch(words: &[u64; WORDS], k: usize) -> Watch
+pub(crate) fn monitor(words: &[u64; WORDS], k: usize) -> Monitor
     requires { k < 16 }
-    ensures { result ≡ watch_at words.now k }
+    ensures { result ≡ monitor_at words.now k }
 {
-    Watch {
+    Monitor {
         rule: Rule::from(part(words, RULES + RULE * k)),
         count: words[COUNTS + k],
     }

@@ -1,11 +1,11 @@
 ghost use Rattle.std.specs.Prelude.{◌≡◌, ◌+◌, ◌*◌, ◌≤◌, ◌++◌, length, map, take, drop};
 ghost use Rattle.std.specs.List.{flat_map};
-ghost use Rattle.rules.specs.Watches.{rule_of};
+ghost use Rattle.rules.specs.Monitors.{rule_of};
 ghost use Rattle.satellite.specs.Model.{model};
 ghost use Rattle.layout.specs.Map.{activity_words, rule_words, words_of, activity_size, activities_at, rules_at, counts_at, word_count};
 
 use crate::map::{ACTIVITIES, ACTIVITY, COUNTS, PARAMETERS, RULE, RULES, TIME, WAITING, WORDS};
-use rules::{COUNT, Watch};
+use rules::{COUNT, Monitor};
 use satellite::Satellite;
 use schedule::{Activity, ROOM};
 use std::array;
@@ -22,15 +22,15 @@ pub fn write_words(satellite: &Satellite, words: &mut [u64; WORDS])
         satellite.missed,
     ];
     let schedule = &satellite.schedule;
-    let watches = &satellite.rules.watches;
-    let counts: [u64; COUNT] = array::from_fn(|k| watches[k].count);
+    let monitors = &satellite.rules.monitors;
+    let counts: [u64; COUNT] = array::from_fn(|k| monitors[k].count);
     lay(words, TIME, &head);
     lay(words, PARAMETERS, &satellite.parameters.values);
     lay(words, WAITING, &[schedule.len() as u64]);
     // Noughts where no activity waits.
     lay(words, ACTIVITIES, &[0; ACTIVITY * ROOM]);
     lay_activities(words, schedule.waiting());
-    lay_rules(words, watches);
+    lay_rules(words, monitors);
     lay(words, COUNTS, &counts);
 }
 
@@ -46,12 +46,12 @@ fn lay_activities(words: &mut [u64; WORDS], waiting: &[Activity])
     }
 }
 
-fn lay_rules(words: &mut [u64; WORDS], watches: &[Watch; 16])
-    ensures laid { words.new ≡ take rules_at words.old ++ (flat_map rule_words (map rule_of watches.now) ++ drop counts_at words.old) }
-    ensures long { length watches.now ≡ 16 }
+fn lay_rules(words: &mut [u64; WORDS], monitors: &[Monitor; 16])
+    ensures laid { words.new ≡ take rules_at words.old ++ (flat_map rule_words (map rule_of monitors.now) ++ drop counts_at words.old) }
+    ensures long { length monitors.now ≡ 16 }
 {
-    for (k, watch) in watches.iter().enumerate() {
-        let numbers = <[u64; RULE]>::from(watch.rule);
+    for (k, monitor) in monitors.iter().enumerate() {
+        let numbers = <[u64; RULE]>::from(monitor.rule);
         lay(words, RULES + RULE * k, &numbers);
     }
 }

@@ -18,7 +18,7 @@ use Rattle.mission.specs.declared.aloft.Output.{Output}
 use Rattle.mission.specs.Lines.{line_of, told}
 use Rattle.mission.specs.declared.whole.Failure.{Failure}
 use Rattle.mission.specs.declared.whole.Failure.TheVariants as failure
-use Rattle.mission.specs.Run.{Flown, Storied, Broke, Untouched, line_told}
+use Rattle.mission.specs.Run.{FlownThrough, Storied, Broke, Untouched, line_told}
 use Rattle.mission.specs.Steps.{Steps, and_then, Ran, stepped}
 use Rattle.mission.proofs.Flying.{latest, run_right}
 
@@ -82,7 +82,7 @@ module _ {W : Type 0} (took : W → List ℕ → W → Type 0) where
     }
 
   -- where the hits are tolerated, what was written is the story
-  pub storied : (text : List ℕ) (f g : Formatter W) → Flown took text f g → Storied took text f g
+  pub storied : (text : List ℕ) (f g : Formatter W) → FlownThrough took text f g → Storied took text f g
   storied text f g x es t l s =
       let e : x.events ≡ es = told_once flights event_readable text x.events es x.says t in
       let ran : Ran (reverse es) x.aloft (reverse x.outputs) = subst (λ (y : List Event). Ran (reverse y) x.aloft (reverse x.outputs)) e x.ran in
@@ -101,10 +101,10 @@ untouched text es t failure.Unwritten f g b = tt
 
 -- a run of a text that has been checked
 module _ {W : Type 0} (took : W → List ℕ → W → Type 0) (text : List ℕ) (f g : Formatter W) where
-  pub whole_run : (es : List Event) → Told text es → (r : Result (Unit {0}) Failure) → MatchResult r (λ _. IsPlainFormatter f → Flown took text f g) (λ x. Broke text x) → MatchResult r (λ _. IsPlainFormatter f → Flown took text f g) (λ x. Broke text x × Untouched x f g)
+  pub whole_run : (es : List Event) → Told text es → (r : Result (Unit {0}) Failure) → MatchResult r (λ _. IsPlainFormatter f → FlownThrough took text f g) (λ x. Broke text x) → MatchResult r (λ _. IsPlainFormatter f → FlownThrough took text f g) (λ x. Broke text x × Untouched x f g)
   whole_run es t (Ok u) h = h
   whole_run es t (Err x) h = (h, untouched text es t x f g h)
 
-  pub whole_story : (r : Result (Unit {0}) Failure) → MatchResult r (λ _. IsPlainFormatter f → Flown took text f g) (λ x. Broke text x) → IfOk r (λ _. IsPlainFormatter f → Storied took text f g)
+  pub whole_story : (r : Result (Unit {0}) Failure) → MatchResult r (λ _. IsPlainFormatter f → FlownThrough took text f g) (λ x. Broke text x) → IfOk r (λ _. IsPlainFormatter f → Storied took text f g)
   whole_story (Ok u) h = λ p. storied took text f g (h p)
   whole_story (Err x) h = tt

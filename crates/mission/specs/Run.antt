@@ -15,7 +15,7 @@ use Rattle.mission.specs.Steps.{Ran}
 use Rattle.mission.specs.Story.{reports, Tolerated}
 
 -- the text says these events, from launch they gave these outputs, and those are what was written
-pub record Flown {W : Type 0} (took : W → List ℕ → W → Type 0) (text : List ℕ) (f g : Formatter W) : Type 0 where
+pub record FlownThrough {W : Type 0} (took : W → List ℕ → W → Type 0) (text : List ℕ) (f g : Formatter W) : Type 0 where
   pub events : List Event
   pub says : Told text events
   pub outputs : List Output

@@ -2,7 +2,7 @@ ghost use Rattle.std.specs.Prelude.{◌≡◌, MatchResult, OnOk};
 ghost use Rattle.std.specs.Fmt.{IsPlainFormatter, WritesOnOk};
 ghost use Rattle.mission.specs.declared.whole.Failure.TheVariants.{Unread, Unwritten};
 ghost use Rattle.text.specs.declared.fault.Fault.TheVariants.{Memory};
-ghost use Rattle.mission.specs.Run.{Flown, Storied, Broke, Untouched, line_told};
+ghost use Rattle.mission.specs.Run.{FlownThrough, Storied, Broke, Untouched, line_told};
 
 use crate::aloft::{Aloft, Output};
 use std::alloc::{AllocError, Global};

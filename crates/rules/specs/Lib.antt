@@ -1,3 +1,3 @@
 pub mod Watching
 pub mod Numbers
-pub mod Watches
+pub mod Monitors

@@ -4,12 +4,12 @@
 
 ghost use Rattle.std.specs.Prelude.{◌≡◌, ◌+◌, ◌<◌, ◌≤◌, set, replicate};
 ghost use Rattle.rules.specs.Watching.{off, is_past, next_count, acts, may_set};
-ghost use Rattle.rules.specs.Watches.{rules_of, counts_of};
+ghost use Rattle.rules.specs.Monitors.{rules_of, counts_of};
 
 mod rule;
 
 use parameters::may_put;
-pub use rule::{Rule, Rules, Watch};
+pub use rule::{Rule, Rules, Monitor};
 
 /// How many rules there are.
 pub const COUNT: usize = 16;
@@ -67,7 +67,7 @@ impl Rules {
         ensures counts { counts_of result ≡ replicate 16 0 }
     {
         Rules {
-            watches: [Watch {
+            monitors: [Monitor {
                 rule: OFF,
                 count: 0,
             }; COUNT],
@@ -80,6 +80,6 @@ impl Rules {
         ensures rules { rules_of self.new ≡ set (rules_of self.old) index rule }
         ensures counts { counts_of self.new ≡ set (counts_of self.old) index 0 }
     {
-        self.watches[index as usize] = Watch { rule, count: 0 };
+        self.monitors[index as usize] = Monitor { rule, count: 0 };
     }
 }

@@ -21,14 +21,14 @@ pub struct Rule {
 
 /// A rule, and for how many ticks in a row it has been past its limit.
 #[derive(Clone, Copy)]
-pub struct Watch {
+pub struct Monitor {
     pub rule: Rule,
     pub count: u64,
 }
 
 #[derive(Clone, Copy)]
 pub struct Rules {
-    pub watches: [Watch; 16],
+    pub monitors: [Monitor; 16],
 }
 
 /// The seven numbers of a rule, in the order in which frames, texts and memory have them; its marks as 1 or 0.

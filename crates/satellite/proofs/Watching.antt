@@ -3,10 +3,9 @@ use Rattle.std.proofs.Common.{◌≡◌, ℕ, zero, suc, ◌+◌, ◌<◌, ◌�
 use Rattle.std.proofs.lemmas.Bool.{cond_both, cond-true, cond-false}
 use Rattle.std.proofs.Math.Seq.{map-set_same}
 use Rattle.std.proofs.lemmas.List.{get_or-set_other, map-set}
-use Rattle.schedule.specs.Waiting.{waiting}
 use Rattle.rules.specs.declared.rule.Rule.{Rule}
-use Rattle.rules.specs.declared.rule.Watch.{Watch}
-use Rattle.rules.specs.Watches.{rule_of, count_of}
+use Rattle.rules.specs.declared.rule.Monitor.{Monitor}
+use Rattle.rules.specs.Monitors.{rule_of, count_of}
 use Rattle.satellite.specs.declared.state.Satellite.{Satellite}
 use Rattle.satellite.specs.Model.{model}
 use Rattle.rules.specs.Watching.{off, acts}
@@ -15,29 +14,29 @@ use Rattle.satellite.specs.Story.{looked, counted, acted, watched_one, watched}
 use Rattle.satellite.specs.Fit.{RuleFit, RulesFit, most}
 
 -- what stands where there is no rule
-abbrev pub unset : Watch
+abbrev pub unset : Monitor
 unset = record { rule = off; count = 0 }
 
-rule_of_watch : (ws : List Watch) (k : ℕ) → (get_or ws k unset).rule ≡ get_or (map rule_of ws) k off
-rule_of_watch [] k = refl
-rule_of_watch (w ∷ ws) zero = refl
-rule_of_watch (w ∷ ws) (suc k) = rule_of_watch ws k
+rule_of_monitor : (ws : List Monitor) (k : ℕ) → (get_or ws k unset).rule ≡ get_or (map rule_of ws) k off
+rule_of_monitor [] k = refl
+rule_of_monitor (w ∷ ws) zero = refl
+rule_of_monitor (w ∷ ws) (suc k) = rule_of_monitor ws k
 
 -- a rule as the code keeps it, beside its count
-pub rule_here : (s : Satellite) (k : ℕ) → (get_or s.rules.watches k unset).rule ≡ rule (model s) k
-rule_here s k = rule_of_watch s.rules.watches k
+pub rule_here : (s : Satellite) (k : ℕ) → (get_or s.rules.monitors k unset).rule ≡ rule (model s) k
+rule_here s k = rule_of_monitor s.rules.monitors k
 
 -- a rule has another count
 abbrev pub recounted : Satellite → ℕ → ℕ → Satellite
 recounted s k n = record s {
-  rules = record { watches = set s.rules.watches k (record { rule = (get_or s.rules.watches k unset).rule; count = n }) };
+  rules = record { monitors = set s.rules.monitors k (record { rule = (get_or s.rules.monitors k unset).rule; count = n }) };
 }
 
 pub recounted_is : (s : Satellite) (k n : ℕ) → model (recounted s k n) ≡ with_counts (set (model s).counts k n) (model s)
 recounted_is s k n =
-    let w : Watch = record { rule = (get_or s.rules.watches k unset).rule; count = n } in
-    let r : map rule_of (set s.rules.watches k w) ≡ map rule_of s.rules.watches = map-set_same rule_of s.rules.watches k w unset refl in
-    λ i. record (model s) { rules = r i; counts = map-set count_of s.rules.watches k w i }
+    let w : Monitor = record { rule = (get_or s.rules.monitors k unset).rule; count = n } in
+    let r : map rule_of (set s.rules.monitors k w) ≡ map rule_of s.rules.monitors = map-set_same rule_of s.rules.monitors k w unset refl in
+    λ i. record (model s) { rules = r i; counts = map-set count_of s.rules.monitors k w i }
 
 acted_rules : (r : Rule) (s : State) → ((acted r s).rules ≡ s.rules) × ((acted r s).counts ≡ s.counts)
 acted_rules r s = cond_both r.safes _ _ (λ (u : State). (u.rules ≡ s.rules) × (u.counts ≡ s.counts)) (λ _. (refl, refl)) (λ _. (refl, refl))

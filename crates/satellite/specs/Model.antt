@@ -1,6 +1,6 @@
 -- The state that a satellite of the code is.
 use Rattle.schedule.specs.Waiting.{waiting}
-use Rattle.rules.specs.Watches.{rules_of, counts_of}
+use Rattle.rules.specs.Monitors.{rules_of, counts_of}
 use Rattle.satellite.specs.State.{State}
 use Rattle.satellite.specs.declared.state.Satellite.{Satellite}
 

@@ -9,7 +9,7 @@ ghost use Rattle.satellite.specs.Model.{model};
 use crate::state::Satellite;
 use frame::decode;
 use parameters::Parameters;
-use rules::{COUNT, Rule, Rules, Watch};
+use rules::{COUNT, Rule, Rules, Monitor};
 use schedule::Schedule;
 
 impl Satellite {
@@ -80,9 +80,9 @@ impl Satellite {
         requires counted { count (model self.old) k ≤ most }
         ensures { model self.new ≡ watched_one k (model self.old) }
     {
-        let rule = self.rules.watches[k].rule;
+        let rule = self.rules.monitors[k].rule;
         let count = self.look(k);
-        self.rules.watches[k].count = count;
+        self.rules.monitors[k].count = count;
         if rule.acts(count) {
             self.act(rule);
         }
@@ -95,7 +95,7 @@ impl Satellite {
         requires counted { count (model self.now) k ≤ most }
         ensures { result ≡ looked k (model self.now) }
     {
-        let Watch { rule, count } = self.rules.watches[k];
+        let Monitor { rule, count } = self.rules.monitors[k];
         rule.next_count(self.parameters.at(rule.watches), count)
     }
 

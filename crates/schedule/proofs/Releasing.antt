@@ -5,7 +5,7 @@ use Rattle.std.proofs.lemmas.Bool.{cond-true, cond-false, true≢false}
 use Rattle.schedule.specs.declared.activity.Activity.{Activity}
 use Rattle.schedule.specs.declared.activity.Fate.{Fate}
 use Rattle.schedule.specs.declared.activity.Fate.TheVariants.{Waits, Missed, Done}
-use Rattle.schedule.specs.Waiting.{fate_of, is_waiting, is_missed, is_done, fated, put_all, AllWait, NoneDue}
+use Rattle.schedule.specs.Waiting.{fate_of, is_waiting, is_missed, is_done, fated, put_all, AllWait, NothingDue}
 
 swap : (b c : Bool) (x a : Activity) (l : List Activity) → cond b (x ∷ cond c (l ++ (a ∷ [])) l) (cond c (l ++ (a ∷ [])) l) ≡ cond c (cond b (x ∷ l) l ++ (a ∷ [])) (cond b (x ∷ l) l)
 swap true true x a l = refl
@@ -38,7 +38,7 @@ wait_more t safe x xs false h f n =
       ap (λ v. cond (is_done v) (x ∷ fated is_done (λ a. fate_of a t safe) xs) (fated is_done (λ a. fate_of a t safe) xs)) w ∙ k.2,
     )
 
-pub none_due : (t : ℕ) (xs : List Activity) → list_any (λ a. eqb a.release t) xs ≡ false → NoneDue t xs
+pub none_due : (t : ℕ) (xs : List Activity) → list_any (λ a. eqb a.release t) xs ≡ false → NothingDue t xs
 none_due t [] e safe = (refl, refl, refl)
 none_due t (x ∷ xs) e safe = wait_more t safe x xs (eqb x.release t) refl e (λ h. none_due t xs h safe)
 

@@ -50,8 +50,8 @@ fated p f (a ∷ xs) = cond (p (f a)) (a ∷ fated p f xs) (fated p f xs)
 abbrev pub AllWait : (Activity → Fate) → List Activity → Type 0
 AllWait f xs = (fated is_waiting f xs ≡ xs) × (fated is_missed f xs ≡ []) × (fated is_done f xs ≡ [])
 
-abbrev pub NoneDue : ℕ → List Activity → Type 0
-NoneDue now xs = (safe : Bool) → AllWait (λ a. fate_of a now safe) xs
+abbrev pub NothingDue : ℕ → List Activity → Type 0
+NothingDue now xs = (safe : Bool) → AllWait (λ a. fate_of a now safe) xs
 
 abbrev pub SomeDue : ℕ → List Activity → Type 0
 SomeDue now xs = (k : ℕ) × ((k < length xs) × ((get_or xs k no_activity).release ≡ now))

@@ -1,5 +1,5 @@
 ghost use Rattle.std.specs.Prelude.{◌≡◌, ◌<◌, ◌≤◌, true, false, cond, [], ◌∷◌, ◌++◌, length, nat_le};
-ghost use Rattle.schedule.specs.Waiting.{waiting, fated, is_waiting, is_missed, is_done, put_all, fate_of, NoneDue, SomeDue, Placed};
+ghost use Rattle.schedule.specs.Waiting.{waiting, fated, is_waiting, is_missed, is_done, put_all, fate_of, NothingDue, SomeDue, Placed};
 
 use crate::activity::{Activity, Fate};
 use crate::waiting::Schedule;
@@ -49,7 +49,7 @@ impl Schedule {
 
     /// Whether it is the time of an activity.
     pub fn is_due(&self, time: u64) -> bool
-        ensures none { result ≡ false → NoneDue time (waiting self.now) }
+        ensures none { result ≡ false → NothingDue time (waiting self.now) }
         ensures some { result ≡ true → SomeDue time (waiting self.now) }
     {
         self.waiting()

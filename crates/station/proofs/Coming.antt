@@ -10,15 +10,15 @@ use Rattle.satellite.specs.Story.{Inputs}
 use Rattle.flight.specs.Flight.{after}
 use Rattle.flight.specs.Commanding.{heard}
 use Rattle.flight.proofs.Commanded as commanded
-use Rattle.station.specs.Line.{numbered, Sendable}
+use Rattle.station.specs.Line.{telecommand_of, Sendable}
 use Rattle.station.specs.Passes.{Names, ComesThrough, Brings, now, before, Delivers, AllObeyed}
 use Rattle.station.proofs.Knowing.{within_file, expected_grows, surely_obeyed}
 
 -- the frame that is named carries the expected command
-named_heard : (cs : List Command) (i : Inputs) (is : List Inputs) → Sendable cs → Names cs i is → heard i is ≡ Some (numbered cs (after is).expected)
+named_heard : (cs : List Command) (i : Inputs) (is : List Inputs) → Sendable cs → Names cs i is → heard i is ≡ Some (telecommand_of cs (after is).expected)
 named_heard cs i is s e =
     let n : ℕ = (after is).expected in
-    let t : Telecommand = numbered cs n in
+    let t : Telecommand = telecommand_of cs n in
     ⊎_elim
     (λ (l : ltb n (length cs) ≡ true).
     let ok = s n (ltb-true n (length cs) l) in
@@ -31,7 +31,7 @@ named_heard cs i is s e =
     (cases_Bool (ltb n (length cs)))
 
 pub comes_through : ComesThrough
-comes_through cs i is s e = commanded.comes_through i is (numbered cs (after is).expected).command (named_heard cs i is s e)
+comes_through cs i is s e = commanded.comes_through i is (telecommand_of cs (after is).expected).command (named_heard cs i is s e)
 
 grows : (stretch early : List Inputs) → (after early).expected ≤ (after (stretch ++ early)).expected
 grows [] early = omega arith

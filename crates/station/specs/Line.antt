@@ -7,12 +7,12 @@ use Rattle.frame.specs.Frame.{encodable, encoding}
 use Rattle.telemetry.specs.declared.Report.{Report}
 
 -- command n of a file, with its number
-abbrev pub numbered : List Command → ℕ → Telecommand
-numbered cs n = record { number = n; command = slice_index_or cs n Sleep }
+abbrev pub telecommand_of : List Command → ℕ → Telecommand
+telecommand_of cs n = record { number = n; command = slice_index_or cs n Sleep }
 
 -- the frame of command n, none if the file ends before it
 abbrev pub frame_for : List Command → ℕ → Option (List ℕ)
-frame_for cs n = cond (nat_lt n (length cs)) (encoding (numbered cs n)) None
+frame_for cs n = cond (nat_lt n (length cs)) (encoding (telecommand_of cs n)) None
 
 -- the number that the latest report expects; 0 before any was heard
 abbrev pub expected_of : Option Report → ℕ
@@ -30,4 +30,4 @@ later_of (Some l) r = cond (nat_lt r.time l.time) l r
 
 -- a file whose commands can all be sent
 abbrev pub Sendable : List Command → Type 0
-Sendable cs = (n : ℕ) → n < length cs → encodable (numbered cs n) ≡ true
+Sendable cs = (n : ℕ) → n < length cs → encodable (telecommand_of cs n) ≡ true

@@ -6,12 +6,12 @@ use Rattle.satellite.specs.Story.{Inputs}
 use Rattle.telemetry.specs.Reports.{report_of}
 use Rattle.flight.specs.Flight.{after}
 use Rattle.flight.specs.Commanding.{heard, obeyed_in}
-use Rattle.station.specs.Line.{numbered, frame_for, Sendable}
+use Rattle.station.specs.Line.{telecommand_of, frame_for, Sendable}
 
 -- a flight over the ground's line: whatever is heard is a command of the file under its number, however often, late and out of order
 abbrev pub FromFile : List Command → List Inputs → Type 0
 FromFile cs [] = Unit {0}
-FromFile cs (i ∷ is) = ((t : Telecommand) → heard i is ≡ Some t → (t.number < length cs) × (t ≡ numbered cs t.number)) × FromFile cs is
+FromFile cs (i ∷ is) = ((t : Telecommand) → heard i is ≡ Some t → (t.number < length cs) × (t ≡ telecommand_of cs t.number)) × FromFile cs is
 
 -- if the report of such a flight says that it expects n, then exactly the first n commands of the file have been obeyed, in their order
 abbrev pub SurelyObeyed : Type 0
@@ -26,7 +26,7 @@ Names cs i is = frame_for cs (report_of (after is)).expected ≡ Some i.frame
 abbrev pub ComesThrough : Type 0
 ComesThrough =
     (cs : List Command) (i : Inputs) (is : List Inputs) → Sendable cs → Names cs i is →
-    (obeyed_in (i ∷ is) ≡ (numbered cs (after is).expected).command ∷ obeyed_in is) × ((after (i ∷ is)).expected ≡ suc (after is).expected)
+    (obeyed_in (i ∷ is) ≡ (telecommand_of cs (after is).expected).command ∷ obeyed_in is) × ((after (i ∷ is)).expected ≡ suc (after is).expected)
 
 -- in some tick of a stretch the frame that the ground then names comes up
 pub data Brings (cs : List Command) : (stretch early : List Inputs) → Type 0 where

@@ -9,7 +9,7 @@ ghost use Rattle.station.specs.Passes.{SurelyObeyed, ComesThrough, AllObeyed};
 use frame::{Command, Telecommand, encode};
 use telemetry::Report;
 
-/// A file of commands, numbered from 0, and the latest report heard.
+/// A file of commands, telecommand_of from 0, and the latest report heard.
 #[derive(Drop)]
 pub struct Station {
     commands: Vec<Command>,

@@ -15,6 +15,6 @@ returns c =
       missed = get_or w 4 0;
       parameters = c.copy_from_slice.ensures.after i;
       schedule = (ap (take (get_or w waiting_at 0)) c.fill_activities.ensures ∙ take-map-range_with_len (activity_at w) 0 32 (get_or w waiting_at 0) c.requires) i;
-      rules = c.fill_watches.ensures.rules i;
-      counts = c.fill_watches.ensures.counts i;
+      rules = c.fill_monitors.ensures.rules i;
+      counts = c.fill_monitors.ensures.counts i;
     }

@@ -5,8 +5,8 @@ use Rattle.std.proofs.lemmas.List.{length-take, length-map}
 use Rattle.schedule.specs.declared.activity.Activity.{Activity}
 use Rattle.schedule.specs.Waiting.{waiting}
 use Rattle.rules.specs.Watching.{off}
-use Rattle.rules.specs.declared.rule.Watch.{Watch}
-use Rattle.rules.specs.Watches.{rule_of, count_of, counts_of}
+use Rattle.rules.specs.declared.rule.Monitor.{Monitor}
+use Rattle.rules.specs.Monitors.{rule_of, count_of, counts_of}
 use Rattle.satellite.specs.Model.{model}
 use Rattle.layout.specs.Map.{Sized, bit, activity_words, activity_size, waiting_at, activities_at, counts_at, word_count}
 use Rattle.layout.proofs.Parts.{made_of}
@@ -21,12 +21,12 @@ as_bit false = refl
 pub returns : goal.returns
 returns c =
     let s = c.args.satellite.now in
-    let unset : Watch = record { rule = off; count = 0 } in
+    let unset : Monitor = record { rule = off; count = 0 } in
     let few : length (waiting s.schedule) ≤ 32 = (let h = s.schedule.few in omega (arith, length-take s.schedule.count s.schedule.activities)) in
-    let sixteen : length s.rules.watches ≡ 16 = c.lay_rules.ensures.long in
+    let sixteen : length s.rules.monitors ≡ 16 = c.lay_rules.ensures.long in
     let counts : c.from_fn-counts.result ≡ counts_of s.rules =
-    made_of _ count_of _ c.from_fn-counts.result unset 0 s.rules.watches 16 sixteen (λ k y q e. search rules) c.from_fn-counts.ensures.items in
-    let z : Sized (model s) = record { parameters = c.lay-2.ensures.long; schedule = few; rules = length-map s.rules.watches rule_of ∙ sixteen; counts = ap length (sym counts) ∙ c.lay-5.ensures.long } in
+    made_of _ count_of _ c.from_fn-counts.result unset 0 s.rules.monitors 16 sixteen (λ k y q e. search rules) c.from_fn-counts.ensures.items in
+    let z : Sized (model s) = record { parameters = c.lay-2.ensures.long; schedule = few; rules = length-map s.rules.monitors rule_of ∙ sixteen; counts = ap length (sym counts) ∙ c.lay-5.ensures.long } in
     let l₁ = next (model s) z 0 (omega arith) (omega arith) _ _ (none (model s) z c.args.words.now (omega arith))
     (c.lay.ensures.laid ∙ ap (λ m. take 0 c.args.words.now ++ ((s.time ∷ (s.expected ∷ (m ∷ (s.rejected ∷ (s.missed ∷ []))))) ++ drop 5 c.args.words.now)) (c.from.ensures ∙ as_bit s.safe_mode)) in
     let l₂ = next (model s) z 1 (omega arith) (omega arith) _ _ l₁ c.lay-2.ensures.laid in

@@ -7,7 +7,7 @@ use Rattle.text.specs.Text.{flights}
 use Rattle.text.proofs.Telling.{start, passed_on}
 use Rattle.text.proofs.Writing.{ok_is}
 use Rattle.mission.specs.declared.whole.Failure.TheVariants.{Unread}
-use Rattle.mission.specs.Run.{Flown, Broke}
+use Rattle.mission.specs.Run.{FlownThrough, Broke}
 use Rattle.mission.specs.Steps.{launched}
 use Rattle.mission.proofs.Running.{Underway, begin, faulty, passed, flown}
 use Rattle.mission.proofs.whole.run.Goals as goal
@@ -26,7 +26,7 @@ returns-in_err-event g c =
     let took = g.W.Write.write_str_gives in
     let text = c.args.text.now in
     let x = c.in_err-event.field-0.0 in
-    passed_on (λ _. IsPlainFormatter c.args.out.now → Flown took text c.args.out.now c.loop-read.out) (Broke text) c.from_residual.result (Unread x) c.from_residual.ensures.1
+    passed_on (λ _. IsPlainFormatter c.args.out.now → FlownThrough took text c.args.out.now c.loop-read.out) (Broke text) c.from_residual.result (Unread x) c.from_residual.ensures.1
     (faulty took text c.loop-read.read-iterator c.next.new.self c.loop-read.aloft c.args.out.now c.loop-read.out c.loop-read.invariant.1 c.in-Some.read c.in-Some.ensures.steps x c.in_err-event.was)
 
 pub loop-read-preserved-in-Continue-branch-3 : goal.loop-read-preserved-in-Continue-branch-3

@@ -11,7 +11,7 @@ use Rattle.satellite.proofs.state.Satellite.take_turn.Goals as goal
 with_count : (s : Satellite) (k n : ℕ) → n ≡ looked k (model s) → model (recounted s k n) ≡ counted k (model s)
 with_count s k n e = recounted_is s k n ∙ ap (λ x. with_counts (set (model s).counts k x) (model s)) e
 
-whether : (s : Satellite) (k n : ℕ) (b : Bool) → n ≡ looked k (model s) → b ≡ acts (get_or s.rules.watches k unset).rule n → b ≡ acts (rule (model s) k) (looked k (model s))
+whether : (s : Satellite) (k n : ℕ) (b : Bool) → n ≡ looked k (model s) → b ≡ acts (get_or s.rules.monitors k unset).rule n → b ≡ acts (rule (model s) k) (looked k (model s))
 whether s k n b e d = d ∙ (λ i. acts (rule_here s k i) (e i))
 
 pub returns-then-acts : goal.returns-then-acts
