@@ -16,7 +16,7 @@ use Rattle.frame.specs.declared.Command as today
 use Rattle.frame.specs.declared.Command.TheVariants.{Put, Later, Forget, Sleep, Wake, SetRule, Unknown}
 use Rattle.frame.specs.declared.Telecommand.{Telecommand}
 use Rattle.satellite.specs.State.{State}
-use Rattle.satellite.specs.Story.{Inputs, at_release}
+use Rattle.satellite.specs.Story.{Inputs, at_release, at_reception}
 use Rattle.flight.specs.Machine.{AllLawful}
 use Rattle.flight.specs.Machine as lawful
 use Rattle.flight.specs.Flight.{Lawful, machine, after}

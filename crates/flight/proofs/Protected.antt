@@ -6,7 +6,7 @@ use Rattle.rules.specs.declared.rule.Rule.{Rule}
 use Rattle.rules.specs.Watching.{off, is_past, next_count, acts}
 use Rattle.frame.specs.declared.Command.{Command}
 use Rattle.satellite.specs.State.{State, parameter, rule, count}
-use Rattle.satellite.specs.Story.{Inputs, begun, looked, counted, acted, watched_one, watched, done, at_release}
+use Rattle.satellite.specs.Story.{Inputs, begun, looked, counted, acted, watched_one, watched, done, at_release, at_reception}
 use Rattle.satellite.proofs.Watching.{one_rules, watched_rules, count_before}
 use Rattle.flight.specs.Machine.{AllLawful, more}
 use Rattle.flight.specs.Flight.{machine, after}

@@ -1,12 +1,13 @@
 -- What is received has small numbers.
-use Rattle.std.proofs.Common.{◌≡◌, ℕ, ◌<◌, ◌≤◌, Bool, true, cond, ◌&&◌, eqb, List, length, get_or, Some, None, subst, ⊎_elim, arith}
+use Rattle.std.proofs.Common.{◌≡◌, ℕ, ◌+◌, ◌<◌, ◌≤◌, Bool, true, cond, ◌&&◌, eqb, List, length, get_or, Some, None, subst, ⊎_elim, arith}
 use Rattle.std.proofs.lemmas.Bool.{and_parts, cases_lt, cond_both}
 use Rattle.std.proofs.lemmas.List.{get_or_past}
 use Rattle.schedule.specs.declared.activity.Activity.{Activity}
 use Rattle.rules.specs.declared.rule.Rule.{Rule}
+use Rattle.rules.specs.Numbers.{rule_from}
 use Rattle.frame.specs.declared.Command.{Command}
 use Rattle.frame.specs.declared.Telecommand.{Telecommand}
-use Rattle.frame.specs.Frame.{all_small, check_of, is_whole, rule_of, command_of, decoded}
+use Rattle.frame.specs.Frame.{all_small, check_of, is_whole, command_of, decoded}
 use Rattle.frame.proofs.Smallness.{each_small}
 
 -- a number that a frame can carry
@@ -49,7 +50,7 @@ command_small f s =
     (either (eqb (get_or f 1 0) 2) Command.Forget _ tt
     (either (eqb (get_or f 1 0) 3) Command.Sleep _ tt
     (either (eqb (get_or f 1 0) 4) Command.Wake _ tt
-    (either (eqb (get_or f 1 0) 5) (Command.SetRule (get_or f 2 0) (rule_of f)) (Command.Unknown (get_or f 1 0)) (record { watches = g 3; limit = g 4; needs = g 6; place = g 8; number = g 9 }) tt)))))
+    (either (eqb (get_or f 1 0) 5) (Command.SetRule (get_or f 2 0) (rule_from (λ j. get_or f (3 + j) 0))) (Command.Unknown (get_or f 1 0)) (record { watches = g 3; limit = g 4; needs = g 6; place = g 8; number = g 9 }) tt)))))
 
 pub decoded_small : (f : List ℕ) (t : Telecommand) → decoded f ≡ Some t → SmallCommand t.command
 decoded_small f t e =

@@ -4,7 +4,7 @@ use Rattle.rules.specs.declared.rule.Rule.{Rule}
 use Rattle.rules.specs.Watching.{is_past}
 use Rattle.frame.specs.declared.Command.{Command}
 use Rattle.satellite.specs.State.{State, parameter, rule, count}
-use Rattle.satellite.specs.Story.{Inputs, begun, looked, counted, acted, watched_one, watched, at_release}
+use Rattle.satellite.specs.Story.{Inputs, begun, looked, counted, acted, watched_one, watched, at_release, at_reception}
 use Rattle.flight.specs.Machine.{AllLawful}
 use Rattle.flight.specs.Flight.{machine, after}
 use Rattle.flight.specs.Commanding.{Turn}

@@ -4,7 +4,7 @@ use Rattle.schedule.specs.declared.activity.Activity.{Activity}
 use Rattle.schedule.specs.Waiting.{due}
 use Rattle.frame.specs.declared.Command.{Command}
 use Rattle.satellite.specs.State.{parameter}
-use Rattle.satellite.specs.Story.{Inputs, at_release}
+use Rattle.satellite.specs.Story.{Inputs, at_release, at_reception}
 use Rattle.flight.specs.Machine.{AllLawful}
 use Rattle.flight.specs.Flight.{machine, after}
 use Rattle.flight.specs.Commanding.{Turn}

@@ -1,7 +1,8 @@
 -- Telecommand frames: when twelve numbers are a whole frame, which command a frame carries, and the frame of a command.
 use Rattle.std.specs.Prelude.{ℕ, zero, suc, ◌+◌, ◌*◌, ◌%◌, Bool, true, cond, ◌&&◌, List, [], ◌∷◌, length, Some, None, Option, ◌==◌, nat_le, slice_index, slice_set}
 use Rattle.std.specs.List.{list_all}
-use Rattle.rules.specs.declared.rule.Rule.{Rule}
+use Rattle.rules.specs.Numbers.{rule_from}
+use Rattle.schedule.specs.Numbers.{activity_from}
 use Rattle.frame.specs.declared.Command.{Command}
 use Rattle.frame.specs.declared.Telecommand.{Telecommand}
 
@@ -20,26 +21,15 @@ check_of f = weighed 11 f % 65521
 abbrev pub is_whole : List ℕ → Bool
 is_whole f = length f == 12 && (all_small f && slice_index f 11 == check_of f)
 
--- the second number is the kind, the nine after it are arguments; a mark is set by 1 and by nothing else
-abbrev pub rule_of : List ℕ → Rule
-rule_of f = record {
-  watches = slice_index f 3;
-  limit = slice_index f 4;
-  upward = (slice_index f 5 == 1);
-  needs = slice_index f 6;
-  safes = (slice_index f 7 == 1);
-  place = slice_index f 8;
-  number = slice_index f 9;
-}
-
+-- the second number is the kind, the nine after it are arguments
 abbrev pub command_of : List ℕ → Command
 command_of f =
     cond (slice_index f 1 == 0) (Command.Put (slice_index f 2) (slice_index f 3))
-    (cond (slice_index f 1 == 1) (Command.Later (record { release = slice_index f 2; place = slice_index f 3; number = slice_index f 4 }))
+    (cond (slice_index f 1 == 1) (Command.Later (activity_from (λ j. slice_index f (2 + j))))
     (cond (slice_index f 1 == 2) Command.Forget
     (cond (slice_index f 1 == 3) Command.Sleep
     (cond (slice_index f 1 == 4) Command.Wake
-    (cond (slice_index f 1 == 5) (Command.SetRule (slice_index f 2) (rule_of f))
+    (cond (slice_index f 1 == 5) (Command.SetRule (slice_index f 2) (rule_from (λ j. slice_index f (3 + j))))
     (Command.Unknown (slice_index f 1)))))))
 
 -- what a frame carries: nothing if it is not whole

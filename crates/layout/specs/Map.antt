@@ -15,8 +15,8 @@ use Rattle.std.specs.List.{range_with_len, flat_map}
 use Rattle.schedule.specs.declared.activity.Activity.{Activity}
 use Rattle.rules.specs.declared.rule.Rule.{Rule}
 use Rattle.rules.specs.declared.rule.Monitor.{Monitor}
-use Rattle.schedule.specs.Numbers.{activity_numbers}
-use Rattle.rules.specs.Numbers.{rule_numbers}
+use Rattle.schedule.specs.Numbers.{activity_numbers, activity_from}
+use Rattle.rules.specs.Numbers.{rule_numbers, rule_from}
 use Rattle.satellite.specs.State.{State}
 
 -- how many words an activity and a rule take, and where each part begins: after the one before it
@@ -80,18 +80,10 @@ words_of s = joined (parts s)
 
 -- an activity, a rule, and what the words say of all of them
 abbrev pub activity_at : List ℕ → ℕ → Activity
-activity_at ws k = record { release = slice_index ws (activities_at + activity_size * k); place = slice_index ws (activities_at + 1 + activity_size * k); number = slice_index ws (activities_at + 2 + activity_size * k) }
+activity_at ws k = activity_from (λ j. slice_index ws (activities_at + j + activity_size * k))
 
 abbrev pub rule_at : List ℕ → ℕ → Rule
-rule_at ws k = record {
-  watches = slice_index ws (rules_at + rule_size * k);
-  limit = slice_index ws (rules_at + 1 + rule_size * k);
-  upward = (slice_index ws (rules_at + 2 + rule_size * k) == 1);
-  needs = slice_index ws (rules_at + 3 + rule_size * k);
-  safes = (slice_index ws (rules_at + 4 + rule_size * k) == 1);
-  place = slice_index ws (rules_at + 5 + rule_size * k);
-  number = slice_index ws (rules_at + 6 + rule_size * k);
-}
+rule_at ws k = rule_from (λ j. slice_index ws (rules_at + j + rule_size * k))
 
 -- a rule beside its count
 abbrev pub monitor_at : List ℕ → ℕ → Monitor

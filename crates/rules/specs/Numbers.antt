@@ -8,14 +8,17 @@ bit b = cond b 1 0
 abbrev pub rule_numbers : Rule → List ℕ
 rule_numbers r = r.watches ∷ (r.limit ∷ (bit r.upward ∷ (r.needs ∷ (bit r.safes ∷ (r.place ∷ (r.number ∷ []))))))
 
--- a mark is set by 1 and by nothing else
-abbrev pub rule_in : List ℕ → Rule
-rule_in xs = record {
-  watches = slice_index xs 0;
-  limit = slice_index xs 1;
-  upward = (slice_index xs 2 == 1);
-  needs = slice_index xs 3;
-  safes = (slice_index xs 4 == 1);
-  place = slice_index xs 5;
-  number = slice_index xs 6;
+-- the rule that a row of numbers says, wherever they stand; a mark is set by 1 and by nothing else
+abbrev pub rule_from : (ℕ → ℕ) → Rule
+rule_from at = record {
+  watches = at 0;
+  limit = at 1;
+  upward = (at 2 == 1);
+  needs = at 3;
+  safes = (at 4 == 1);
+  place = at 5;
+  number = at 6;
 }
+
+abbrev pub rule_in : List ℕ → Rule
+rule_in xs = rule_from (λ j. slice_index xs j)

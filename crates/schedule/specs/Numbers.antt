@@ -5,5 +5,9 @@ use Rattle.schedule.specs.declared.activity.Activity.{Activity}
 abbrev pub activity_numbers : Activity → List ℕ
 activity_numbers a = a.release ∷ (a.place ∷ (a.number ∷ []))
 
+-- the activity that a row of numbers says, wherever they stand
+abbrev pub activity_from : (ℕ → ℕ) → Activity
+activity_from at = record { release = at 0; place = at 1; number = at 2 }
+
 abbrev pub activity_in : List ℕ → Activity
-activity_in xs = record { release = slice_index xs 0; place = slice_index xs 1; number = slice_index xs 2 }
+activity_in xs = activity_from (λ j. slice_index xs j)
