@@ -1,8 +1,6 @@
 -- What a flight leaves is not refused.
 use Rattle.std.proofs.Common.{◌≡◌, ℕ, zero, suc, ◌+◌, ◌*◌, ◌<◌, ◌≤◌, Bool, true, false, eqb, leb, List, [], ◌∷◌, length, get_or, sym, refl, ap, ◌∙◌, subst, inl, inr, ⊎_elim, arith}
 use Rattle.std.proofs.lemmas.Bool.{le-leb, and_from}
-use Rattle.memory.specs.Threefold.{voted_words, threefold}
-use Rattle.memory.proofs.Mending.{votes_mend}
 use Rattle.schedule.specs.declared.activity.Activity.{Activity}
 use Rattle.schedule.specs.Waiting.{no_activity}
 use Rattle.std.specs.List.{flat_map}
@@ -15,7 +13,8 @@ use Rattle.layout.specs.Map.{word_count, bit, activity_words, rule_words, words_
 use Rattle.layout.specs.Fault.{Faultless, Sane}
 use Rattle.layout.proofs.Places.{head_word, waiting_word, activity_word, rule_word}
 use Rattle.layout.proofs.Sanity.{faultless_of}
-use Rattle.flight.specs.Flight.{machine, after, NeverRefused}
+use Rattle.layout.proofs.Tidiness.{tidy_right}
+use Rattle.flight.specs.Flight.{keeper, machine, after, NeverRefused}
 use Rattle.flight.specs.Effects.{Place}
 use Rattle.flight.specs.Scheduling.{Among, here, there}
 use Rattle.flight.proofs.Waits.{among_at}
@@ -23,7 +22,7 @@ use Rattle.layout.proofs.Joined.{all_words, each_flat, each_nought, each_behind}
 use Rattle.flight.proofs.Sound.{Sound, after_sound, after_sized}
 use Rattle.flight.proofs.Received.{Small, SmallRule, SmallActivity}
 use Rattle.flight.proofs.Bounds.{Bounded, after_bounded}
-use Rattle.flight.proofs.Flying.{all_lawful, flies_right}
+use Rattle.flight.proofs.Flying.{all_lawful, keeps, flies_right}
 
 pub place_may : (a : ℕ) → Place a → may_put a ≡ true
 place_may a p = and_from (leb 16 a) (leb a 63) (le-leb 16 a p.0) (le-leb a 63 p.1)
@@ -112,6 +111,8 @@ sane n s l z h b =
 
 pub never_refused : NeverRefused
 never_refused is kept found flown upset short =
-    let lawful = all_lawful (threefold word_count) machine is kept flown in
-    let e : voted_words word_count found ≡ words_of (after is) = votes_mend word_count kept found (words_of (after is)) (flies_right.holds is kept flown) upset in
-    subst Faultless (sym e) (faultless_of (words_of (after is)) (sane (length is) (after is) short (after_sized is lawful) (after_sound is lawful) (after_bounded is lawful)))
+    let lawful = all_lawful keeper machine is kept flown in
+    let left = flies_right.holds is kept flown in
+    let sized = after_sized is lawful in
+    let written = faultless_of (words_of (after is)) (sane (length is) (after is) short sized (after_sound is lawful) (after_bounded is lawful)) in
+    subst Faultless (sym (keeps.mends kept found left.words left.holds upset)) (tidy_right.faultless left.words (after is) sized left.tells written)
