@@ -9,3 +9,4 @@ pub mod Commanded
 pub mod Effected
 pub mod Scheduled
 pub mod Protected
+pub mod Keeping

@@ -10,7 +10,7 @@ use Rattle.frame.specs.declared.Command.{Command}
 use Rattle.frame.specs.declared.Telecommand.{Telecommand}
 use Rattle.parameters.specs.Places.{may_put}
 use Rattle.satellite.specs.State.{State, rule}
-use Rattle.satellite.specs.Story.{Inputs, begun, looked, watched_one, watched, can, done, obeyed, at_release, at_reception}
+use Rattle.satellite.specs.Story.{Inputs, begun, looked, watched_one, watched, can, done, obeyed, at_release, at_reception, ticked}
 use Rattle.layout.specs.Map.{Sized}
 use Rattle.flight.specs.Machine.{AllLawful, more}
 use Rattle.flight.specs.Flight.{Lawful, machine, after}
@@ -137,11 +137,17 @@ done_sound s (Command.Unknown n) e h = h
 obeyed_sound : (t : Telecommand) (s : State) → Sound s → Sound (obeyed t s)
 obeyed_sound t s h = obeyed_cases t s Sound (λ _ e. done_sound s t.command e h) (λ _ _. h) (λ _. h)
 
+pub ticked_sound : (i : Inputs) (s : State) → Lawful i → Sound s → Sound (ticked i s)
+ticked_sound i s l h =
+    let r = reception_sound i s l h in
+    ticked_cases Sound i s (λ _. r) (λ t _. obeyed_sound t (at_reception i s) r)
+
 pub after_sound : (is : List Inputs) → AllLawful machine is → Sound (after is)
 after_sound [] l = (no_waits 0, all_off 16, refl, refl, refl)
-after_sound (i ∷ is) (more j js l ls) =
-    let h = reception_sound i (after is) l (after_sound is ls) in
-    ticked_cases Sound i (after is) (λ _. h) (λ t _. obeyed_sound t (at_reception i (after is)) h)
+after_sound (i ∷ is) (more j js l ls) = ticked_sound i (after is) l (after_sound is ls)
+
+pub sound_sized : (s : State) → Sound s → Sized s
+sound_sized s h = record { parameters = h.2; schedule = h.0.few; rules = h.3; counts = h.4 }
 
 pub after_sized : (is : List Inputs) → AllLawful machine is → Sized (after is)
-after_sized is l = let h = after_sound is l in record { parameters = h.2; schedule = h.0.few; rules = h.3; counts = h.4 }
+after_sized is l = sound_sized (after is) (after_sound is l)

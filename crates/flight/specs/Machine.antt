@@ -43,8 +43,8 @@ pub record Left (K : Keeper) (M : Machine) (left : List ℕ) (s : M.State) : Typ
 -- whatever the inputs and the upsets: what is read is the story's, and so is what was left
 pub record Flies (K : Keeper) (M : Machine) : Type 0 where
   pub reads :
-    (is : List M.Input) (kept found : List ℕ) → Flown K M is kept → K.Upset kept found →
-    M.state (K.read found) ≡ story M is
+      (is : List M.Input) (kept found : List ℕ) → Flown K M is kept → K.Upset kept found →
+      M.state (K.read found) ≡ story M is
   pub holds : (is : List M.Input) (kept : List ℕ) → Flown K M is kept → Left K M kept (story M is)
 
 -- this holds of every keeper that mends and every machine that reads back what may be left

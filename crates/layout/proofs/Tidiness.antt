@@ -31,10 +31,10 @@ pub written : (s : State) → Sized s → Tells (words_of s) s
 written s z = record {
   says = state_back s z;
   tidy = record {
-      safe_mode = safe_mode_word s;
-      upward = λ i l. mark_word s z i 2 (rule s i).upward l (omega arith) (rule_word s z i 2 l (omega arith));
-      safes = λ i l. mark_word s z i 4 (rule s i).safes l (omega arith) (rule_word s z i 4 l (omega arith));
-      beyond = λ j l m. (let e = nought_word s z j (let w = waiting_word s z in omega arith) m in omega arith);
+    safe_mode = safe_mode_word s;
+    upward = λ i l. mark_word s z i 2 (rule s i).upward l (omega arith) (rule_word s z i 2 l (omega arith));
+    safes = λ i l. mark_word s z i 4 (rule s i).safes l (omega arith) (rule_word s z i 4 l (omega arith));
+    beyond = λ j l m. (let e = nought_word s z j (let w = waiting_word s z in omega arith) m in omega arith);
   };
 }
 

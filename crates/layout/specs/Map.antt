@@ -132,8 +132,8 @@ pub record Tidy (ws : List ℕ) : Type 0 where
   pub upward : (i : ℕ) → i < 16 → slice_index ws (rules_at + 2 + rule_size * i) ≤ 1
   pub safes : (i : ℕ) → i < 16 → slice_index ws (rules_at + 4 + rule_size * i) ≤ 1
   pub beyond :
-    (j : ℕ) → activity_size * slice_index ws waiting_at ≤ j → j < activities_room →
-    slice_index ws (activities_at + j) ≤ 1
+      (j : ℕ) → activity_size * slice_index ws waiting_at ≤ j → j < activities_room →
+      slice_index ws (activities_at + j) ≤ 1
 
 -- words that a program may leave for a state: they say it, and they are tidy
 pub record Tells (ws : List ℕ) (s : State) : Type 0 where

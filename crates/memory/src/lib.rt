@@ -8,8 +8,8 @@ ghost use Rattle.memory.specs.Threefold.{majority, voted, voted_words, thrice, s
 /// How many numbers of memory a word takes.
 pub const PER_WORD: usize = 3;
 
-/// Of three copies the number on which two agree, the first if none do.
-pub fn vote(a: u64, b: u64, c: u64) -> u64
+// Of three copies the number on which two agree, the first if none do.
+fn vote(a: u64, b: u64, c: u64) -> u64
     ensures { result ≡ majority a b c }
 {
     // Where b and c differ, a is either in a majority or the first of three that differ.
@@ -74,3 +74,16 @@ pub fn keeps_words()
 pub fn upsets_happen()
     ensures { UpsetsHappen }
 {}
+
+#[cfg(test)]
+mod tests {
+    use super::*;
+
+    #[test]
+    fn two_of_three(rt: HostRuntime) {
+        assert_eq!(rt; vote(7, 7, 9), 7);
+        assert_eq!(rt; vote(9, 7, 7), 7);
+        assert_eq!(rt; vote(7, 9, 7), 7);
+        assert_eq!(rt; vote(7, 8, 9), 7);
+    }
+}

@@ -3,14 +3,17 @@
 #![tactic(auto)]
 
 use frame::{Command, Telecommand, encode};
-use onboard::{Refusal, launch, tick};
+use layout::WORDS;
+use memory::Kept;
+use onboard::{MEMORY_LENGTH, launch, tick};
+use refusal::Refusal;
 use rules::Rule;
 use schedule::Activity;
 
 /// A satellite in flight, and what it answered last.
 #[derive(Clone, Copy)]
 pub struct Craft {
-    pub memory: [u64; 882],
+    pub memory: [u64; MEMORY_LENGTH],
     pub report: [u64; 8],
     pub done: Result<(), Refusal>,
 }
@@ -20,7 +23,7 @@ pub const QUIET: [u16; 16] = [0; 16];
 
 impl Craft {
     pub fn launched() -> Craft {
-        let mut memory = [0; 882];
+        let mut memory = [0; MEMORY_LENGTH];
         let _ = launch(&mut memory);
         let report = [0; 8];
         Craft {
@@ -52,9 +55,11 @@ impl Craft {
         self.fly(QUIET, &[])
     }
 
-    /// A word of memory, as its first copy has it.
+    /// A word of memory, as it is read.
     pub fn word(&self, k: usize) -> u64 {
-        if k < 294 { self.memory[k] } else { 0 }
+        let mut words = [0; WORDS];
+        Kept::<WORDS>::new(&self.memory).read(&mut words);
+        if k < WORDS { words[k] } else { 0 }
     }
 }
 
@@ -105,16 +110,8 @@ pub fn passing(index: u64, watches: u64, place: u64, number: u64) -> Command {
 mod tests {
     use super::*;
     use frame::decode;
-    use memory::vote;
-    use onboard::Lent;
-
-    #[test]
-    fn two_of_three(rt: HostRuntime) {
-        assert_eq!(rt; vote(7, 7, 9), 7);
-        assert_eq!(rt; vote(9, 7, 7), 7);
-        assert_eq!(rt; vote(7, 9, 7), 7);
-        assert_eq!(rt; vote(7, 8, 9), 7);
-    }
+    use memory::keep;
+    use refusal::Lent;
 
     #[test]
     fn checks_of_frames(rt: HostRuntime) {
@@ -230,6 +227,8 @@ mod tests {
         assert_eq!(rt; Refusal::Length(Lent::Frame).number(), 1);
         assert_eq!(rt; Refusal::Unfit { word: 70 }.number(), 2);
         assert_eq!(rt; Refusal::Unfit { word: 70 }.place(), 70);
+        assert_eq!(rt; Refusal::Unreadable { line: 4 }.number(), 3);
+        assert_eq!(rt; Refusal::Unreadable { line: 4 }.place(), 4);
     }
 
     #[test]
@@ -257,7 +256,7 @@ mod tests {
         );
         assert!(rt; memory == craft.memory);
         memory[70] = 2;
-        memory[294 + 70] = 2;
+        keep::<WORDS>(&mut memory);
         let hit = memory;
         assert_eq!(rt;
             tick(&mut memory, &QUIET, &[], &mut report),
