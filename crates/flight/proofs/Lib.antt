@@ -9,3 +9,6 @@ pub mod Commanded
 pub mod Effected
 pub mod Scheduled
 pub mod Protected
+pub mod SafeMode
+pub mod Releasing
+pub mod EveryFlight

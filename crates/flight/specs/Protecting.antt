@@ -8,7 +8,6 @@ use Rattle.satellite.specs.Story.{Inputs, begun, looked, counted, acted, watched
 use Rattle.flight.specs.Machine.{AllLawful}
 use Rattle.flight.specs.Flight.{machine, after}
 use Rattle.flight.specs.Commanding.{Turn}
-use Rattle.flight.specs.Scheduling.{NoneDue}
 
 -- past its limit, in words: upward from the limit on, downward down from it
 pub record PastRight : Type 0 where
@@ -18,7 +17,7 @@ pub record PastRight : Type 0 where
   pub downward_not : (r : Rule) (v : ℕ) → r.upward ≡ false → r.limit < v → is_past r v ≡ false
   pub at_limit : (r : Rule) → is_past r r.limit ≡ true
 
--- the state in which rule k is looked at in a tick, each after what the rules before it did, and the value that it then sees
+-- the state in which rule k is looked at in a tick, each after what the rules before it did (the 16th look: none is left), and the value that it then sees
 abbrev pub at_look : ℕ → Inputs → List Inputs → State
 at_look k i is = watched k (begun i.readings (after is))
 
@@ -81,14 +80,28 @@ pub record Putting (k p : ℕ) (i : Inputs) (is : List Inputs) : Type 0 where
   pub puts : (rule (after is) k).safes ≡ false
   pub there : (rule (after is) k).place ≡ p
 
--- the last rule that acts for a place has put its number, unless an activity for that place is due
+-- at each look the last rule before it that acts for a place has put its number there
 abbrev pub RulesPut : Type 0
 RulesPut =
-    (i : Inputs) (is : List Inputs) (k p : ℕ) → AllLawful machine (i ∷ is) → Putting k p i is → ((j : ℕ) → k < j → Putting j p i is → ⊥) → NoneDue p is →
-    parameter (at_reception i (after is)) p ≡ (rule (after is) k).number
+    (i : Inputs) (is : List Inputs) (k j p : ℕ) → AllLawful machine (i ∷ is) → k ≤ 16 → j < k → Putting j p i is →
+    ((l : ℕ) → j < l → l < k → Putting l p i is → ⊥) → parameter (at_look k i is) p ≡ (rule (after is) j).number
 
--- a parameter that is no instrument's changes only by a rule that acts, an activity that is due, or a command
+-- a place that is no instrument's, and for which no rule before that look acts, holds what the tick before left there
 abbrev pub ElseUntouched : Type 0
 ElseUntouched =
-    (i : Inputs) (is : List Inputs) (p : ℕ) → AllLawful machine (i ∷ is) → 16 ≤ p → ((k : ℕ) → Putting k p i is → ⊥) → NoneDue p is →
-    parameter (at_reception i (after is)) p ≡ parameter (after is) p
+    (i : Inputs) (is : List Inputs) (k p : ℕ) → AllLawful machine (i ∷ is) → k ≤ 16 → 16 ≤ p →
+    ((j : ℕ) → j < k → Putting j p i is → ⊥) → parameter (at_look k i is) p ≡ parameter (after is) p
+
+-- at each look the instruments' places hold what was read, and after the last one activities are released
+pub record LooksRight : Type 0 where
+  pub reads : (i : Inputs) (is : List Inputs) (k p : ℕ) → AllLawful machine (i ∷ is) → k ≤ 16 → p < 16
+      → parameter (at_look k i is) p ≡ slice_index i.readings p
+  pub release : (i : Inputs) (is : List Inputs) → at_release i (after is) ≡ at_look 16 i is
+
+-- safe mode lasts: the release of activities leaves it as it is, and after that nothing but its command changes it
+pub record SafeLasts : Type 0 where
+  pub in_release : (i : Inputs) (s : State) → (at_reception i s).safe_mode ≡ (at_release i s).safe_mode
+  pub stays : (i : Inputs) (is : List Inputs) → (Turn i is Command.Wake → ⊥)
+      → (at_release i (after is)).safe_mode ≡ true → (after (i ∷ is)).safe_mode ≡ true
+  pub awake : (i : Inputs) (is : List Inputs) → (Turn i is Command.Sleep → ⊥)
+      → (at_release i (after is)).safe_mode ≡ false → (after (i ∷ is)).safe_mode ≡ false

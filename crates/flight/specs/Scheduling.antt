@@ -3,8 +3,8 @@ use Rattle.std.specs.Prelude.{◌≡◌, ℕ, suc, ◌+◌, ◌<◌, true, false
 use Rattle.schedule.specs.declared.activity.Activity.{Activity}
 use Rattle.schedule.specs.Waiting.{due}
 use Rattle.frame.specs.declared.Command.{Command}
-use Rattle.satellite.specs.State.{parameter}
-use Rattle.satellite.specs.Story.{Inputs, at_release, at_reception}
+use Rattle.satellite.specs.State.{State, with_missed, with_parameters, with_schedule, parameter}
+use Rattle.satellite.specs.Story.{Inputs, released, at_release, at_reception}
 use Rattle.flight.specs.Machine.{AllLawful}
 use Rattle.flight.specs.Flight.{machine, after}
 use Rattle.flight.specs.Commanding.{Turn}
@@ -24,6 +24,15 @@ abbrev pub PartsInTick : Type 0
 PartsInTick =
     (i : Inputs) (is : List Inputs) →
     Parts (suc (after is).time) (after is).schedule (due (suc (after is).time) (after is).schedule) (at_reception i (after is)).schedule
+
+-- what waits stays, until its time is come or all is forgotten; one whose time is come is gone; and nothing else comes to wait but what is added
+pub record EachActivity : Type 0 where
+  pub stays : (i : Inputs) (is : List Inputs) (a : Activity) → Among a (after is).schedule → (Turn i is Command.Forget → ⊥)
+      → (a.release ≡ (after (i ∷ is)).time) ⊎ Among a (after (i ∷ is)).schedule
+  pub gone : (i : Inputs) (is : List Inputs) (a : Activity) → AllLawful machine (i ∷ is) → a.release ≡ (after (i ∷ is)).time
+      → Among a (after (i ∷ is)).schedule → ⊥
+  pub only : (i : Inputs) (is : List Inputs) (a : Activity) → Among a (after (i ∷ is)).schedule
+      → Among a (after is).schedule ⊎ Turn i is (Command.Later a)
 
 -- none is kept past its time
 abbrev pub NeverLate : Type 0
@@ -57,6 +66,30 @@ MissedInSafeMode =
     (i : Inputs) (is : List Inputs) → (at_release i (after is)).safe_mode ≡ true →
     ((at_reception i (after is)).parameters ≡ (at_release i (after is)).parameters)
     × ((at_reception i (after is)).missed ≡ (after is).missed + length (due (suc (after is).time) (after is).schedule))
+
+-- an activity among those that wait, none behind it for its place and its time
+pub record LastForPlace (a : Activity) (all : List Activity) : Type 0 where
+  pub front : List Activity
+  pub back : List Activity
+  pub stands : all ≡ front ++ (a ∷ back)
+  pub last : (b : Activity) → Among b back → b.release ≡ a.release → b.place ≢ a.place
+
+-- the release of activities, of whatever state
+pub record ReleasesRight : Type 0 where
+  -- in safe mode nothing is put, and each that is due is counted as missed
+  pub unput : (s : State) → s.safe_mode ≡ true → (released s).parameters ≡ s.parameters
+  pub missed : (s : State) → s.safe_mode ≡ true → (released s).missed ≡ s.missed + length (due s.time s.schedule)
+  -- outside it none is missed, and the last one due for its place has put its number
+  pub unmissed : (s : State) → s.safe_mode ≡ false → (released s).missed ≡ s.missed
+  pub put : (s : State) (a : Activity) → s.safe_mode ≡ false → LastForPlace a s.schedule → a.release ≡ s.time
+      → a.place < length s.parameters → parameter (released s) a.place ≡ a.number
+  -- a place for which none is due keeps what it held
+  pub else_kept : (s : State) (p : ℕ) → ((a : Activity) → Among a s.schedule → a.release ≡ s.time → a.place ≢ p)
+      → parameter (released s) p ≡ parameter s p
+  -- those that are due are gone, the others wait on, and nothing else changes
+  pub waits : (s : State) → Parts s.time s.schedule (due s.time s.schedule) (released s).schedule
+  pub others : (s : State)
+      → released s ≡ with_schedule (released s).schedule (with_parameters (released s).parameters (with_missed (released s).missed s))
 
 -- over the whole flight missed counts just these
 abbrev pub misses : List Inputs → ℕ
