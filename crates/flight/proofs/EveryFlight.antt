@@ -1,24 +1,20 @@
 -- What is promised of every flight, from the promises that make it up.
-use Rattle.std.proofs.Common.{◌≡◌, ℕ, suc, ◌+◌, Bool, true, false, cond, ◌⊎◌, List, ◌∷◌, length, sym, refl, ap, ◌∙◌, ⊎_elim, inl, inr}
+use Rattle.std.proofs.Common.{◌≡◌, ℕ, suc, ◌+◌, true, false, cond, List, ◌∷◌, length, sym, ap, ◌∙◌, ⊎_elim}
 use Rattle.std.proofs.lemmas.Bool.{cases_Bool, cond-true}
 use Rattle.memory.specs.Threefold.{threefold}
-use Rattle.schedule.specs.declared.activity.Activity.{Activity}
 use Rattle.schedule.specs.Waiting.{due}
-use Rattle.satellite.specs.State.{State, parameter, rule}
-use Rattle.satellite.specs.Story.{Inputs, at_release, at_reception}
+use Rattle.satellite.specs.Story.{Inputs, at_release}
 use Rattle.layout.specs.Map.{word_count}
 use Rattle.flight.specs.Machine.{AllLawful, more}
 use Rattle.flight.specs.Flight.{machine, after, Flew}
-use Rattle.flight.specs.Scheduling.{LastForPlace}
 use Rattle.flight.specs.EveryFlight.{FlewLawfully, InSafeMode, EveryFlight}
 use Rattle.flight.proofs.Flying.{all_lawful, flies_right}
 use Rattle.flight.proofs.Commanded.{each_once, comes_through, safe_at_once}
-use Rattle.flight.proofs.Waits.{last_due}
 use Rattle.flight.proofs.Effected.{after_time}
 use Rattle.flight.proofs.Scheduled.{never_late, put_when_due, missed_in_safe_mode, missed_right}
 use Rattle.flight.proofs.Protected.{safe_by_rules}
 use Rattle.flight.proofs.SafeMode.{safe_lasts}
-use Rattle.flight.proofs.Releasing.{each_activity}
+use Rattle.flight.proofs.Fates.{each_activity}
 
 pub flew_lawfully : FlewLawfully
 flew_lawfully = all_lawful (threefold word_count) machine
@@ -32,14 +28,6 @@ safe_then i is l = ⊎_elim (safe_by_rules.stays i is) (λ x. safe_by_rules.by i
 
 awake_then : (i : Inputs) (is : List Inputs) → AllLawful machine (i ∷ is) → (InSafeMode i is → ⊥) → (at_release i (after is)).safe_mode ≡ false
 awake_then i is l f = ⊎_elim (λ e. absurd (f (safe_by_rules.from i is (before i is l) e))) (λ e. e) (cases_Bool (at_release i (after is)).safe_mode)
-
--- in its tick, outside safe mode, the last for its place is put
-put_in_tick : (i : Inputs) (is : List Inputs) (a : Activity) → AllLawful machine (i ∷ is) → LastForPlace a (after is).schedule → a.release ≡ (after (i ∷ is)).time
-    → (InSafeMode i is → ⊥) → parameter (at_reception i (after is)) a.place ≡ a.number
-put_in_tick i is a l last e f =
-    let t = suc (after is).time in
-    let p = last_due t a (after is).schedule last (e ∙ after_time i is) in
-    put_when_due i is (due t last.front) (due t last.back) a l (awake_then i is l f) p.0 p.1
 
 -- in safe mode each one whose tick it is is counted
 missed_in_tick : (i : Inputs) (is : List Inputs) → AllLawful machine (i ∷ is) → InSafeMode i is → (after (i ∷ is)).missed ≡ (after is).missed + length (due (after (i ∷ is)).time (after is).schedule)
@@ -60,7 +48,7 @@ every_flight i is left flew =
       safe_at_once = safe_at_once i is;
       safe_lasts = λ e f. safe_lasts.stays i is f (safe_then i is l e);
       waits = each_activity.stays i is;
-      put = λ a last e f. put_in_tick i is a l last e f;
+      put = λ a last e f. put_when_due i is a l (awake_then i is l f) last (e ∙ after_time i is);
       unput = λ e. (missed_in_safe_mode i is (safe_then i is l e)).0;
       missed = missed_in_tick i is l;
       never_late = λ a m. never_late (i ∷ is) a l m;

@@ -11,4 +11,5 @@ pub mod Scheduled
 pub mod Protected
 pub mod SafeMode
 pub mod Releasing
+pub mod Fates
 pub mod EveryFlight

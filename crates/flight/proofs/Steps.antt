@@ -74,6 +74,10 @@ pub release_is : (i : Inputs) (s : State) → at_release i s ≡ watched 16 (beg
 unfolding at_release
 release_is i s = refl
 
+pub reception_is : (i : Inputs) (s : State) → at_reception i s ≡ released (at_release i s)
+unfolding at_reception
+reception_is i s = refl
+
 pub release_kept : (i : Inputs) (s : State)
     → at_release i s ≡ with_safe_mode (at_release i s).safe_mode (with_parameters (at_release i s).parameters (with_counts (at_release i s).counts (with_time (suc s.time) s)))
 unfolding at_release

@@ -45,12 +45,18 @@ KeptTillDue =
     ((after (i ∷ is)).schedule ≡ (at_reception i (after is)).schedule)
     ⊎ ((a : Activity) × Turn i is (Command.Later a) × ((after (i ∷ is)).schedule ≡ (at_reception i (after is)).schedule ++ (a ∷ [])))
 
--- the last activity for its place among those that are due is what stands there once they are done, outside safe mode
+-- an activity among those that wait, none behind it for its place and its time
+pub record LastForPlace (a : Activity) (all : List Activity) : Type 0 where
+  pub front : List Activity
+  pub back : List Activity
+  pub stands : all ≡ front ++ (a ∷ back)
+  pub last : (b : Activity) → Among b back → b.release ≡ a.release → b.place ≢ a.place
+
+-- in its tick the last activity for its place is what stands there, outside safe mode
 abbrev pub PutWhenDue : Type 0
 PutWhenDue =
-    (i : Inputs) (is : List Inputs) (front back : List Activity) (a : Activity) → AllLawful machine (i ∷ is) → (at_release i (after is)).safe_mode ≡ false →
-    due (suc (after is).time) (after is).schedule ≡ front ++ (a ∷ back) → ((b : Activity) → Among b back → b.place ≢ a.place) →
-    parameter (at_reception i (after is)) a.place ≡ a.number
+    (i : Inputs) (is : List Inputs) (a : Activity) → AllLawful machine (i ∷ is) → (at_release i (after is)).safe_mode ≡ false →
+    LastForPlace a (after is).schedule → a.release ≡ suc (after is).time → parameter (at_reception i (after is)) a.place ≡ a.number
 
 -- no activity for a place is due in the next tick
 abbrev pub NoneDue : ℕ → List Inputs → Type 0
@@ -66,13 +72,6 @@ MissedInSafeMode =
     (i : Inputs) (is : List Inputs) → (at_release i (after is)).safe_mode ≡ true →
     ((at_reception i (after is)).parameters ≡ (at_release i (after is)).parameters)
     × ((at_reception i (after is)).missed ≡ (after is).missed + length (due (suc (after is).time) (after is).schedule))
-
--- an activity among those that wait, none behind it for its place and its time
-pub record LastForPlace (a : Activity) (all : List Activity) : Type 0 where
-  pub front : List Activity
-  pub back : List Activity
-  pub stands : all ≡ front ++ (a ∷ back)
-  pub last : (b : Activity) → Among b back → b.release ≡ a.release → b.place ≢ a.place
 
 -- the release of activities, of whatever state
 pub record ReleasesRight : Type 0 where

@@ -1,4 +1,4 @@
-use Rattle.flight.proofs.Releasing.{each_activity}
+use Rattle.flight.proofs.Fates.{each_activity}
 use Rattle.flight.proofs.each_activity.Goals as goal
 
 pub returns : goal.returns
