@@ -7,7 +7,8 @@ use Rattle.satellite.specs.Story.{Inputs, at_release}
 use Rattle.layout.specs.Map.{word_count}
 use Rattle.flight.specs.Machine.{AllLawful, more}
 use Rattle.flight.specs.Flight.{machine, after, Flew}
-use Rattle.flight.specs.EveryFlight.{FlewLawfully, InSafeMode, EveryFlight}
+use Rattle.flight.specs.Protecting.{InSafeMode}
+use Rattle.flight.specs.EveryFlight.{FlewLawfully, EveryFlight}
 use Rattle.flight.proofs.Flying.{all_lawful, flies_right}
 use Rattle.flight.proofs.Commanded.{each_once, comes_through, safe_at_once}
 use Rattle.flight.proofs.Effected.{after_time}

@@ -4,22 +4,18 @@ use Rattle.memory.specs.Threefold.{voted_words, threefold}
 use Rattle.schedule.specs.declared.activity.Activity.{Activity}
 use Rattle.schedule.specs.Waiting.{due}
 use Rattle.frame.specs.declared.Command.{Command}
-use Rattle.satellite.specs.State.{parameter, rule}
+use Rattle.satellite.specs.State.{parameter}
 use Rattle.satellite.specs.Story.{Inputs, at_release, at_reception}
 use Rattle.layout.specs.Map.{word_count, state_of}
 use Rattle.flight.specs.Machine.{AllLawful}
 use Rattle.flight.specs.Flight.{machine, after, Flew}
 use Rattle.flight.specs.Commanding.{Turn, FromGround, obeyed_in, first_sent}
 use Rattle.flight.specs.Scheduling.{Among, LastForPlace}
-use Rattle.flight.specs.Protecting.{Acting}
+use Rattle.flight.specs.Protecting.{InSafeMode}
 
 -- what a flight was given is lawful, as the promises ask
 abbrev pub FlewLawfully : Type 0
 FlewLawfully = (is : List Inputs) (kept : List ℕ) → Flew is kept → AllLawful machine is
-
--- safe mode from before a tick, or by a rule that acts in it
-abbrev pub InSafeMode : Inputs → List Inputs → Type 0
-InSafeMode i is = ((after is).safe_mode ≡ true) ⊎ ((k : ℕ) × Acting k i is × ((rule (after is) k).safes ≡ true))
 
 -- of a flight (its ticks the latest first), one more tick, and the memory that this left
 pub record EveryFlight (i : Inputs) (is : List Inputs) (left : List ℕ) : Type 0 where
@@ -31,11 +27,13 @@ pub record EveryFlight (i : Inputs) (is : List Inputs) (left : List ℕ) : Type 
       → obeyed_in (i ∷ is) ≡ first_sent sent (after (i ∷ is)).expected
   -- what has its turn comes through, and then the next has
   pub comes_through : (c : Command) → Turn i is c
-      → (obeyed_in (i ∷ is) ≡ c ∷ obeyed_in is) × ((after (i ∷ is)).expected ≡ suc (after is).expected)
+      → (obeyed_in (i ∷ is) ≡ c ∷ obeyed_in is)
+      × ((after (i ∷ is)).expected ≡ suc (after is).expected)
   -- safe mode is had in the tick in which it is commanded
   pub safe_at_once : Turn i is Command.Sleep → (after (i ∷ is)).safe_mode ≡ true
   -- had before or by a rule, it lasts until `Wake` has its turn
-  pub safe_lasts : InSafeMode i is → (Turn i is Command.Wake → ⊥) → (after (i ∷ is)).safe_mode ≡ true
+  pub safe_lasts : InSafeMode i is → (Turn i is Command.Wake → ⊥)
+      → (after (i ∷ is)).safe_mode ≡ true
   -- what waits stays until its tick, or until all is forgotten
   pub waits : (a : Activity) → Among a (after is).schedule → (Turn i is Command.Forget → ⊥)
       → (a.release ≡ (after (i ∷ is)).time) ⊎ Among a (after (i ∷ is)).schedule
@@ -43,8 +41,11 @@ pub record EveryFlight (i : Inputs) (is : List Inputs) (left : List ℕ) : Type 
   pub put : (a : Activity) → LastForPlace a (after is).schedule → a.release ≡ (after (i ∷ is)).time
       → (InSafeMode i is → ⊥) → parameter (at_reception i (after is)) a.place ≡ a.number
   -- or in safe mode nothing is put, and each one whose tick it is is counted as missed
-  pub unput : InSafeMode i is → (at_reception i (after is)).parameters ≡ (at_release i (after is)).parameters
+  pub unput : InSafeMode i is
+      → (at_reception i (after is)).parameters ≡ (at_release i (after is)).parameters
   pub missed : InSafeMode i is
-      → (after (i ∷ is)).missed ≡ (after is).missed + length (due (after (i ∷ is)).time (after is).schedule)
+      → (after (i ∷ is)).missed ≡
+      (after is).missed + length (due (after (i ∷ is)).time (after is).schedule)
   -- nothing waits longer
-  pub never_late : (a : Activity) → Among a (after (i ∷ is)).schedule → (after (i ∷ is)).time < a.release
+  pub never_late : (a : Activity) → Among a (after (i ∷ is)).schedule
+      → (after (i ∷ is)).time < a.release
