@@ -16,13 +16,9 @@ has_turn i is t c e n d = e ∙ (λ j. Some (record { number = (n ∙ expected_k
 
 -- what a command that is done leaves of a mode: only those two change it
 done_mode : (s : State) (c : Command) (b : Bool) → (c ≡ Command.Sleep → true ≡ b) → (c ≡ Command.Wake → false ≡ b) → s.safe_mode ≡ b → (done s c).safe_mode ≡ b
-done_mode s (Command.Put a n) b f g e = e
-done_mode s (Command.Later a) b f g e = e
-done_mode s Command.Forget b f g e = e
 done_mode s Command.Sleep b f g e = f refl
 done_mode s Command.Wake b f g e = g refl
-done_mode s (Command.SetRule k r) b f g e = e
-done_mode s (Command.Unknown k) b f g e = e
+done_mode s _ b f g e = e
 
 after_mode : (i : Inputs) (is : List Inputs) (b : Bool) → (Turn i is Command.Sleep → true ≡ b) → (Turn i is Command.Wake → false ≡ b)
     → (at_release i (after is)).safe_mode ≡ b → (after (i ∷ is)).safe_mode ≡ b

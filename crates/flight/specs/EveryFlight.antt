@@ -4,8 +4,8 @@ use Rattle.memory.specs.Threefold.{voted_words, threefold}
 use Rattle.schedule.specs.declared.activity.Activity.{Activity}
 use Rattle.schedule.specs.Waiting.{due}
 use Rattle.frame.specs.declared.Command.{Command}
-use Rattle.satellite.specs.State.{parameter}
-use Rattle.satellite.specs.Story.{Inputs, at_release, at_reception}
+use Rattle.satellite.specs.State.{with_expected, parameter}
+use Rattle.satellite.specs.Story.{Inputs, can, done, at_release, at_reception}
 use Rattle.layout.specs.Map.{word_count, state_of}
 use Rattle.flight.specs.Machine.{AllLawful}
 use Rattle.flight.specs.Flight.{machine, after, Flew}
@@ -29,6 +29,9 @@ pub record EveryFlight (i : Inputs) (is : List Inputs) (left : List ℕ) : Type 
   pub comes_through : (c : Command) → Turn i is c
       → (obeyed_in (i ∷ is) ≡ c ∷ obeyed_in is)
       × ((after (i ∷ is)).expected ≡ suc (after is).expected)
+  -- and takes effect, if it can be done
+  pub takes_effect : (c : Command) → Turn i is c → can (at_reception i (after is)) c ≡ true
+      → after (i ∷ is) ≡ with_expected (suc (after is).expected) (done (at_reception i (after is)) c)
   -- safe mode is had in the tick in which it is commanded
   pub safe_at_once : Turn i is Command.Sleep → (after (i ∷ is)).safe_mode ≡ true
   -- had before or by a rule, it lasts until `Wake` has its turn

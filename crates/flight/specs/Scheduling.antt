@@ -65,6 +65,12 @@ pub record LastForPlace (a : Activity) (all : List Activity) : Type 0 where
   pub stands : all ≡ front ++ (a ∷ back)
   pub last : (b : Activity) → Among b back → b.release ≡ a.release → b.place ≢ a.place
 
+-- of those that wait for one place and one time there is always a last
+abbrev pub OneIsLast : Type 0
+OneIsLast =
+    (a : Activity) (all : List Activity) → Among a all →
+    (l : Activity) × LastForPlace l all × (l.release ≡ a.release) × (l.place ≡ a.place)
+
 -- in its tick the last activity for its place is what stands there, outside safe mode
 abbrev pub PutWhenDue : Type 0
 PutWhenDue =

@@ -5,7 +5,7 @@
 ghost use Rattle.flight.specs.Flight.{FliesRight, NeverRefused, CarriesOn};
 ghost use Rattle.flight.specs.Commanding.{EachOnce, ComesThrough, SafeAtOnce};
 ghost use Rattle.flight.specs.Effects.{CommandsAct, ElseIgnored, TickKeeps, ReadsRight, KeepsSizes, TimeRight, RejectedRight, LaunchesRight};
-ghost use Rattle.flight.specs.Scheduling.{PartsInTick, EachActivity, NeverLate, KeptTillDue, PutWhenDue, ElseKept, MissedInSafeMode, ReleasesRight, MissedRight};
+ghost use Rattle.flight.specs.Scheduling.{PartsInTick, EachActivity, NeverLate, KeptTillDue, OneIsLast, PutWhenDue, ElseKept, MissedInSafeMode, ReleasesRight, MissedRight};
 ghost use Rattle.flight.specs.Protecting.{PastRight, CountsRight, InstrumentsRight, BeginsAnew, ActsJustThen, SafeByRules, RulesPut, ElseUntouched, LooksRight, SafeLasts};
 ghost use Rattle.flight.specs.EveryFlight.{FlewLawfully};
 
@@ -102,6 +102,11 @@ pub fn never_late()
 /// What waits on is touched by no command but forget, and later adds one behind.
 pub fn kept_till_due()
     ensures { KeptTillDue }
+{}
+
+/// Of the activities for one place and one time one is the last.
+pub fn one_is_last()
+    ensures { OneIsLast }
 {}
 
 /// The last due activity for a place has put its number, outside safe mode.
