@@ -43,7 +43,7 @@ undoable_cannot s c (rule_high k r e l) = and_right (ltb k 16) (may_set r) (blin
 undoable_cannot s c (no_kind k) = refl
 
 -- a command whose turn it is, and that can be done, or not
-its_turn : (i : Inputs) (is : List Inputs) (c : Command) → Turn i is c → can (at_reception i (after is)) c ≡ true → after (i ∷ is) ≡ with_expected (suc (after is).expected) (done (at_reception i (after is)) c)
+pub its_turn : (i : Inputs) (is : List Inputs) (c : Command) → Turn i is c → can (at_reception i (after is)) c ≡ true → after (i ∷ is) ≡ with_expected (suc (after is).expected) (done (at_reception i (after is)) c)
 its_turn i is c e can-do =
     let t : Telecommand = record { number = (after is).expected; command = c } in
     let r = at_reception i (after is) in

@@ -10,3 +10,7 @@ pub mod Effected
 pub mod Scheduled
 pub mod Protected
 pub mod Keeping
+pub mod SafeMode
+pub mod Releasing
+pub mod Fates
+pub mod EveryFlight

@@ -66,7 +66,7 @@ watched_sizes (suc k) s =
     let q = watched_sizes k s in
     subst (SameSizes s) (sym (watched_suc k s)) (p.0 ∙ q.0, p.1 ∙ q.1)
 
-begun_size : (i : Inputs) (s : State) → Lawful i → length s.parameters ≡ 64 → length (begun i.readings s).parameters ≡ 64
+pub begun_size : (i : Inputs) (s : State) → Lawful i → length s.parameters ≡ 64 → length (begun i.readings s).parameters ≡ 64
 begun_size i s l e = length-append i.readings (drop 16 s.parameters) ∙ simp length-drop (let a = l.readings in omega arith)
 
 pub release_sizes : (i : Inputs) (s : State) → Lawful i → length s.parameters ≡ 64 → (length (at_release i s).parameters ≡ 64) × (length (at_release i s).counts ≡ length s.counts)
