@@ -72,23 +72,13 @@ words_most : (n : ℕ) (s : State) → n < most → Sized s → Bounded n n s �
 unfolding words_of
 words_most n s l z b =
     all_words (λ x. x ≤ most) (parts s) (omega arith) (
-      head_most n s l b,
-      (
-        λ k. (let p = b.parameters k in omega arith),
-        (
-          λ k. waiting_most (length s.schedule) k z.schedule,
-          (
-            each_behind (λ x. x ≤ most) (flat_map activity_words s.schedule) _ (each_flat (λ x. x ≤ most) activity_words s.schedule no_activity (omega arith) (λ i j. let p = activity_small (get_or s.schedule i no_activity) j (each_activity s.schedule b.schedule i) in omega arith)) (each_nought (λ x. x ≤ most) _ (omega arith)),
-            (
-              each_flat (λ x. x ≤ most) rule_words s.rules off (omega arith) (λ i j. let p = rule_small (rule s i) j (b.rules i) in omega arith),
-              (
-                λ k. (let p = b.counts k in omega arith),
-                tt,
-              ),
-            ),
-          ),
-        ),
-      ),
+      head_most n s l b, (
+      λ k. (let p = b.parameters k in omega arith), (
+      λ k. waiting_most (length s.schedule) k z.schedule, (
+      each_behind (λ x. x ≤ most) (flat_map activity_words s.schedule) _ (each_flat (λ x. x ≤ most) activity_words s.schedule no_activity (omega arith) (λ i j. let p = activity_small (get_or s.schedule i no_activity) j (each_activity s.schedule b.schedule i) in omega arith)) (each_nought (λ x. x ≤ most) _ (omega arith)), (
+      each_flat (λ x. x ≤ most) rule_words s.rules off (omega arith) (λ i j. let p = rule_small (rule s i) j (b.rules i) in omega arith), (
+      λ k. (let p = b.counts k in omega arith),
+      tt)))))
     )
 
 -- a word of an activity or a rule, by its name
