@@ -12,7 +12,8 @@ use Rattle.origin.specs.Entry as raw
 use Rattle.schedule.specs.declared.activity.Activity.{Activity}
 use Rattle.schedule.specs.Waiting.{due}
 use Rattle.frame.specs.declared.Command as today
-use Rattle.frame.specs.declared.Command.TheVariants.{Put, Later, Forget, Sleep, Wake, SetRule, Unknown}
+use Rattle.frame.specs.declared.Command.TheVariants.{Put, Later, Forget, Sleep, Wake, SetRule}
+use Rattle.frame.specs.Frame.{kind_of}
 use Rattle.frame.specs.declared.Telecommand.{Telecommand}
 use Rattle.satellite.specs.State.{State}
 use Rattle.satellite.specs.Story.{Inputs, at_release, at_reception}
@@ -61,7 +62,7 @@ rest_of i is (more_then j js l o ls) = ls
 turn : (i : Input) (is : List Input) (c : Command) → AllThen (i ∷ is) → (round_of i).heard ≡ command (origin.after (rounds is)).next c → Turn (now_input i) (now_inputs is) (now_command c)
 turn i is c l e = heard_same i is l ∙ ap now_heard e ∙ (λ j. Some (record { number = sym (same is (rest_of i is l)).next j; command = now_command c }))
 
--- what was of today is of then
+-- what is of today was of then: a later kind was of none
 then_command : today.Command → Command
 then_command (Put i v) = put i v
 then_command (Later a) = later a.release a.place a.number
@@ -69,7 +70,7 @@ then_command Forget = forget
 then_command Sleep = sleep
 then_command Wake = wake
 then_command (SetRule k r) = set_rule k (record { value = r.watches; limit = r.limit; upward = r.upward; needs = r.needs; rests = r.safes; place = r.place; number = r.number })
-then_command (Unknown n) = other n
+then_command c = other (kind_of c)
 
 then_back : (c : Command) → then_command (now_command c) ≡ c
 unfolding then_command

@@ -61,13 +61,8 @@ abbrev About : ℕ → State → State → Type 0
 About k s u = (rule u k ≡ rule s k) × (count u k ≡ count s k)
 
 done_about : (s : State) (c : Command) (k : ℕ) → ((r : Rule) → c ≡ Command.SetRule k r → ⊥) → About k s (done s c)
-done_about s (Command.Put a b) k f = (refl, refl)
-done_about s (Command.Later a) k f = (refl, refl)
-done_about s Command.Forget k f = (refl, refl)
-done_about s Command.Sleep k f = (refl, refl)
-done_about s Command.Wake k f = (refl, refl)
 done_about s (Command.SetRule j r) k f = let n : k ≡ j → ⊥ = λ e. f r (ap (λ m. Command.SetRule m r) (sym e)) in (get_or-set_other s.rules j k r off n, get_or-set_other s.counts j k 0 0 n)
-done_about s (Command.Unknown n) k f = (refl, refl)
+done_about s _ k f = (refl, refl)
 
 after_about : (i : Inputs) (is : List Inputs) (k : ℕ) → ((r : Rule) → Turn i is (Command.SetRule k r) → ⊥) → About k (at_reception i (after is)) (after (i ∷ is))
 after_about i is k f =

@@ -16,7 +16,6 @@ use Rattle.flight.proofs.Waits.{parts, among_middle}
 use Rattle.flight.proofs.Sound.{after_sound, release_sizes}
 use Rattle.flight.proofs.Releasing.{releases_right}
 use Rattle.flight.proofs.Commanded.{expected_kept}
-use Rattle.flight.proofs.Effected.{done_counters}
 
 pub parts_in_tick : PartsInTick
 parts_in_tick i is =
@@ -28,13 +27,9 @@ never_late is a l m = (after_sound is l).0.later a m
 
 -- what a command does to the schedule
 done_schedule : (s : State) (c : Command) → (c ≡ Command.Forget → ⊥) → ((done s c).schedule ≡ s.schedule) ⊎ ((a : Activity) × (c ≡ Command.Later a) × ((done s c).schedule ≡ s.schedule ++ (a ∷ [])))
-done_schedule s (Command.Put p n) f = inl refl
 done_schedule s (Command.Later a) f = inr (a, refl, refl)
 done_schedule s Command.Forget f = absurd (f refl)
-done_schedule s Command.Sleep f = inl refl
-done_schedule s Command.Wake f = inl refl
-done_schedule s (Command.SetRule k r) f = inl refl
-done_schedule s (Command.Unknown k) f = inl refl
+done_schedule s _ f = inl refl
 
 pub kept_till_due : KeptTillDue
 kept_till_due i is f =
@@ -85,4 +80,4 @@ missed_right (i ∷ is) =
     let r = at_reception i s in
     let e : r.missed ≡ misses (i ∷ is) = (reception i s).missed ∙ ap (λ n. n + cond (at_release i s).safe_mode (length (due (suc s.time) s.schedule)) 0) (missed_right is) in
     ticked_cases (λ (u : State). u.missed ≡ misses (i ∷ is)) i s (λ _. e)
-    (λ t _. obeyed_cases t r (λ (u : State). u.missed ≡ misses (i ∷ is)) (λ _ _. (done_counters r t.command).2 ∙ e) (λ _ _. e) (λ _. e))
+    (λ t _. obeyed_cases t r (λ (u : State). u.missed ≡ misses (i ∷ is)) (λ _ _. e) (λ _ _. e) (λ _. e))

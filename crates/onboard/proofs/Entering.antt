@@ -21,6 +21,7 @@ use Rattle.flight.specs.Flight.{Lawful, keeper, after, Flew}
 use Rattle.flight.proofs.Flying.{keeps, flies_right, carries_on, launch_flies}
 use Rattle.flight.proofs.Fitting.{never_refused}
 use Rattle.flight.proofs.Keeping.{tick_kept}
+use Rattle.flight.proofs.EveryFlight.{every_flight}
 use Rattle.onboard.specs.Entry.{wrong_length, turned_away, answered, tick_of, Leaves, Says, KeepsState, GoesOn, no_launch, Launches}
 
 -- memory without fault says a state that can tick
@@ -125,11 +126,9 @@ goes_on d m r f t m₁ t₁ small says is kept flown upset short lr lf lt =
     let none : turned_away m r f t ≡ None = no_reason m r f t long fit in
     let left = subst (λ (o : Option Turned). Leaves o m r f t m₁ t₁) none says.1 in
     let next = carries_on i is kept m flown upset (record { readings = lr; small = small; frame = lf }) in
-    let e : tick_of m r f ≡ after (i ∷ is) = next.0 in (
-      is_done d (says.0 ∙ none),
-      subst (Flew (i ∷ is)) (sym (left.0 ∙ ap (λ (s : State). keeper.stored (words_of s)) e)) next.1,
-      left.1 ∙ ap (λ (s : State). numbers_of (report_of s)) e,
-    )
+    let e : tick_of m r f ≡ after (i ∷ is) = next.0 in
+    let flew : Flew (i ∷ is) m₁ = subst (Flew (i ∷ is)) (sym (left.0 ∙ ap (λ (s : State). keeper.stored (words_of s)) e)) next.1 in
+    (is_done d (says.0 ∙ none), flew, left.1 ∙ ap (λ (s : State). numbers_of (report_of s)) e, every_flight i is m₁ flew)
 
 -- so all clauses of the entry follow from the first
 pub entered : (d : Result (Unit {0}) Refusal) (m r f t m₁ t₁ : List ℕ) → ((k : ℕ) → Fits w16 (get_or r k 0)) → Says d m r f t m₁ t₁

@@ -11,6 +11,7 @@ use Rattle.layout.specs.Map.{words_of, state_of}
 use Rattle.layout.specs.Fault.{lowest_fault}
 use Rattle.telemetry.specs.Reports.{report_of, numbers_of}
 use Rattle.flight.specs.Flight.{keeper, after, Flew}
+use Rattle.flight.specs.EveryFlight.{EveryFlight}
 
 -- the first that has another length than it should have
 abbrev pub wrong_length : (memory readings frame report : ℕ) → Option Lent
@@ -60,13 +61,14 @@ KeepsState d m r f m₁ =
     d ≡ Ok tt → (found : List ℕ) → keeper.Upset m₁ found → state_of (keeper.read found) ≡ tick_of m r f
 
 -- from every flight of fewer than 2^62 ticks, and every tolerated upset, that led to the lent memory: the call ticks, its memory
--- goes on with that flight, and its report is the story's
+-- goes on with that flight, its report is the story's, and what is promised of every flight holds of that flight and this tick
 abbrev pub GoesOn : Result (Unit {0}) Refusal → (memory readings frame report memory₁ report₁ : List ℕ) → Type 0
 GoesOn d m r f t m₁ t₁ =
     (is : List Inputs) (kept : List ℕ) → Flew is kept → keeper.Upset kept m → length is < most →
     length r ≡ 16 → (length f ≡ 0) ⊎ (length f ≡ 12) → length t ≡ 8 →
     (d ≡ Ok tt) × Flew (record { readings = r; frame = f } ∷ is) m₁
     × (t₁ ≡ numbers_of (report_of (after (record { readings = r; frame = f } ∷ is))))
+    × EveryFlight (record { readings = r; frame = f }) is m₁
 
 -- at launch only the length of memory is looked at, and what is left begins a flight
 abbrev pub no_launch : (memory : List ℕ) → Option Turned

@@ -6,6 +6,7 @@ ghost use Rattle.std.specs.Prelude.{◌≡◌, ◌≤◌, length, slice_index, S
 ghost use Rattle.refusal.specs.declared.Refusal.TheVariants.{Length};
 ghost use Rattle.satellite.specs.Fit.{Fit};
 ghost use Rattle.satellite.specs.Model.{model};
+ghost use Rattle.satellite.specs.Story.{came_up};
 ghost use Rattle.layout.specs.Map.{words_of, state_of, waiting_at};
 ghost use Rattle.telemetry.specs.Reports.{report_of, numbers_of};
 ghost use Rattle.flight.specs.Flight.{keeper};
@@ -44,7 +45,7 @@ pub fn tick(
     ensures keeps { KeepsState result memory.old readings.now frame.now memory.new }
     ensures flies { GoesOn result memory.old readings.now frame.now report.old memory.new report.new }
 {
-    let readings = lent_right(memory.len(), readings, frame.len(), report.len())?;
+    let (readings, frame) = lent_right(memory.len(), readings, frame, report.len())?;
     let mut words = [0; WORDS];
     Kept::<WORDS>::new(memory).read(&mut words);
     if let Some(word) = fault(&words) {
@@ -59,15 +60,17 @@ fn advance(
     memory: &mut [u64],
     words: &[u64; WORDS],
     readings: &[u16; 16],
-    frame: &[u64],
+    frame: Option<&[u64; frame::LENGTH]>,
     report: &mut [u64],
 )
     requires long { length memory.old ≡ keeper.size }
     requires told { length report.old ≡ 8 }
     requires few { slice_index words.now waiting_at ≤ 32 }
     requires fit { Fit (state_of words.now) }
-    ensures kept { memory.new ≡ keeper.stored (words_of (tick_of_words words.now readings.now frame.now)) }
-    ensures told { report.new ≡ numbers_of (report_of (tick_of_words words.now readings.now frame.now)) }
+    ensures kept { memory.new ≡
+        keeper.stored (words_of (tick_of_words words.now readings.now (came_up frame.entry))) }
+    ensures told { report.new ≡
+        numbers_of (report_of (tick_of_words words.now readings.now (came_up frame.entry))) }
 {
     let satellite = layout::satellite(words).tick(readings, frame);
     write_back(memory, &satellite);
@@ -85,26 +88,37 @@ fn write_back(memory: &mut [u64], satellite: &Satellite)
     keep::<WORDS>(memory);
 }
 
-// The sixteen readings, if all that is lent has the length that it should have; else the first that has another is refused.
-fn lent_right(
+// The sixteen readings and the frame, if one came up, where all that is lent has the length that it should have;
+// else the first that has another is refused.
+fn lent_right<'a>(
     memory: usize,
-    readings: &[u16],
-    frame: usize,
+    readings: &'a [u16],
+    frame: &'a [u64],
     report: usize,
-) -> Result<&[u16; 16], Refusal>
-    ensures { MatchResult result (λ sixteen. (sixteen.now ≡ readings.now) × (wrong_length memory (length readings.now) frame report ≡ None)) (λ refusal. option_map Length (wrong_length memory (length readings.now) frame report) ≡ Some refusal) }
+) -> Result<(&'a [u16; 16], Option<&'a [u64; frame::LENGTH]>), Refusal>
+    ensures { MatchResult result
+        (λ lent.
+        (lent.0.now ≡ readings.now) × (came_up lent.1 ≡ frame.now) ×
+        (wrong_length memory (length readings.now) (length frame.now) report ≡ None))
+        (λ refusal.
+        option_map Length (wrong_length memory (length readings.now) (length frame.now) report) ≡
+        Some refusal) }
 {
     if memory != MEMORY_LENGTH {
         return Err(Refusal::Length(Lent::Memory));
     }
-    let Ok(sixteen) = <&[u16; INSTRUMENTS]>::try_from(readings) else {
+    let Ok(readings) = <&[u16; INSTRUMENTS]>::try_from(readings) else {
         return Err(Refusal::Length(Lent::Readings));
     };
-    if frame != 0 && frame != frame::LENGTH {
+    let frame = if frame.is_empty() {
+        None
+    } else if let Ok(frame) = <&[u64; frame::LENGTH]>::try_from(frame) {
+        Some(frame)
+    } else {
         return Err(Refusal::Length(Lent::Frame));
-    }
+    };
     if report != telemetry::LENGTH {
         return Err(Refusal::Length(Lent::Report));
     }
-    Ok(sixteen)
+    Ok((readings, frame))
 }

@@ -1,7 +1,7 @@
 use Rattle.std.proofs.Common.{◌≡◌, ℕ, List, Err, refl, sym, ap, ◌∙◌, rules}
 use Rattle.refusal.specs.declared.Refusal.{Refusal}
 use Rattle.satellite.specs.State.{State}
-use Rattle.satellite.specs.Story.{ticked}
+use Rattle.satellite.specs.Story.{came_up, ticked}
 use Rattle.layout.specs.Map.{words_of, state_of}
 use Rattle.layout.specs.Fault.{lowest_fault}
 use Rattle.telemetry.specs.Reports.{report_of, numbers_of}
@@ -24,13 +24,14 @@ returns-in_err-readings c =
 pub returns-in-Some : goal.returns-in-Some
 returns-in-Some c =
     let e : c.read.new.words ≡ keeper.read c.args.memory.now = c.read.ensures ∙ ap keeper.read c.new.ensures in
-    entered _ _ _ _ _ _ _ c.type_inv.readings (away_says _ (Refusal.Unfit c.in-Some.word) _ _ _ _ refl (by_word _ _ _ _ c.in-Some.word c.in_ok-readings.ensures.1 (ap lowest_fault (sym e) ∙ sym c.in-Some.ensures)))
+    entered _ _ _ _ _ _ _ c.type_inv.readings (away_says _ (Refusal.Unfit c.in-Some.word) _ _ _ _ refl (by_word _ _ _ _ c.in-Some.word c.in_ok-readings.ensures.2 (ap lowest_fault (sym e) ∙ sym c.in-Some.ensures)))
 
 pub returns : goal.returns
 returns c =
     let after : State = ticked (record { readings = c.args.readings.now; frame = c.args.frame.now }) (state_of c.read.new.words) in
-    let same = ap (λ (r : List ℕ). ticked (record { readings = r; frame = c.args.frame.now }) (state_of c.read.new.words)) c.in_ok-readings.ensures.0 in
+    let same : ticked (record { readings = c.in_ok-readings.readings.now; frame = came_up c.in_ok-readings.frame }) (state_of c.read.new.words) ≡ after =
+    (λ j. ticked (record { readings = c.in_ok-readings.ensures.0 j; frame = c.in_ok-readings.ensures.1 j }) (state_of c.read.new.words)) in
     entered _ _ _ _ _ _ _ c.type_inv.readings
-    (ticked_says _ _ _ _ _ _ c.read.new.words after (c.in_ok-readings.ensures.1)
+    (ticked_says _ _ _ _ _ _ c.read.new.words after (c.in_ok-readings.ensures.2)
     (c.read.ensures ∙ ap keeper.read c.new.ensures) c.in_default.ensures refl
     (c.advance.ensures.kept ∙ ap (λ (s : State). keeper.stored (words_of s)) same) (c.advance.ensures.told ∙ ap (λ (s : State). numbers_of (report_of s)) same))
