@@ -3,26 +3,26 @@ use Rattle.std.proofs.Common.{◌≡◌, ℕ, ◌+◌, ◌<◌, ◌≤◌, ◌�
 use Rattle.std.specs.Prelude.{option_map, IfErr}
 use Rattle.std.specs.Option.{option_or}
 use Rattle.std.proofs.lemmas.Bool.Decides.{nat_tests}
-use Rattle.std.proofs.lemmas.Bool.{cond-true, cond-false, eq-eqb, ne_eqb}
+use Rattle.std.proofs.lemmas.Bool.{eq-eqb, ne_eqb}
 use Rattle.schedule.specs.declared.activity.Activity.{Activity}
 use Rattle.schedule.specs.Waiting.{Placed}
 use Rattle.refusal.specs.declared.Lent.{Lent}
 use Rattle.refusal.specs.declared.Refusal.{Refusal}
 use Rattle.refusal.specs.Turned.{Turned, turned}
-use Rattle.satellite.specs.State.{State, rule, count, at_launch}
+use Rattle.satellite.specs.State.{State, at_launch}
 use Rattle.satellite.specs.Story.{Inputs, ticked}
 use Rattle.satellite.specs.Fit.{Fit, RuleFit, most}
 use Rattle.layout.specs.Map.{word_count, words_of, rule_at, state_of, counts_at}
-use Rattle.layout.specs.Fault.{Faultless, Lowest, Sane, lowest_fault}
+use Rattle.layout.specs.Fault.{Lowest, Sane, lowest_fault}
 use Rattle.layout.proofs.Sanity.{sane_of, lowest_is, lowest_right}
 use Rattle.layout.proofs.Said.{heads_said, waiting_said, activity_said, rule_said, count_said}
 use Rattle.telemetry.specs.Reports.{report_of, numbers_of}
-use Rattle.flight.specs.Flight.{Lawful, keeper, after, Flew}
+use Rattle.flight.specs.Flight.{keeper, after, Flew}
 use Rattle.flight.proofs.Flying.{keeps, flies_right, carries_on, launch_flies}
 use Rattle.flight.proofs.Fitting.{never_refused}
 use Rattle.flight.proofs.Keeping.{tick_kept}
 use Rattle.flight.proofs.EveryFlight.{every_flight}
-use Rattle.onboard.specs.Entry.{wrong_length, turned_away, answered, tick_of, Leaves, Says, KeepsState, GoesOn, no_launch, Launches}
+use Rattle.onboard.specs.Entry.{wrong_length, turned_away, answered, tick_of, Leaves, Says, KeepsState, GoesOn, Launches}
 
 -- memory without fault says a state that can tick
 rule_fit : (ws : List ℕ) (k : ℕ) → Sane ws → k < 16 → RuleFit (rule_at ws k)

@@ -1,4 +1,4 @@
-use Rattle.std.proofs.Common.{◌≡◌, ℕ, List, Err, refl, sym, ap, ◌∙◌, rules}
+use Rattle.std.proofs.Common.{◌≡◌, Err, refl, sym, ap, ◌∙◌, rules}
 use Rattle.refusal.specs.declared.Refusal.{Refusal}
 use Rattle.satellite.specs.State.{State}
 use Rattle.satellite.specs.Story.{came_up, ticked}
