@@ -30,11 +30,8 @@ pub record SmallActivity (a : Activity) : Type 0 where
 abbrev pub SmallCommand : Command → Type 0
 SmallCommand (Command.Put place number) = Small number
 SmallCommand (Command.Later a) = SmallActivity a
-SmallCommand Command.Forget = Unit {0}
-SmallCommand Command.Sleep = Unit {0}
-SmallCommand Command.Wake = Unit {0}
 SmallCommand (Command.SetRule k r) = SmallRule r
-SmallCommand (Command.Unknown kind) = Unit {0}
+SmallCommand _ = Unit {0}
 
 small_at : (f : List ℕ) → all_small f ≡ true → (k : ℕ) → Small (get_or f k 0)
 small_at f s k = ⊎_elim (λ (l : k < length f). each_small f s k l) (λ (l : length f ≤ k). rw (get_or_past f k 0 l) (omega arith)) (cases_lt k (length f))

@@ -8,7 +8,7 @@ use crate::map::{
     ACTIVITIES, ACTIVITY, COUNTS, EXPECTED, MISSED, PARAMETERS, REJECTED, RULE, RULES, SAFE_MODE,
     TIME, WAITING, WORDS,
 };
-use rules::{Rule, Monitor};
+use rules::{Monitor, Rule};
 use satellite::Satellite;
 use schedule::Activity;
 

@@ -4,7 +4,7 @@ use Rattle.frame.specs.declared.Command.{Command}
 use Rattle.frame.specs.Frame.{encoding}
 use Rattle.layout.specs.Map.{word_count}
 use Rattle.text.specs.declared.event.Event.{Event}
-use Rattle.onboard.specs.declared.Refusal.{Refusal}
+use Rattle.refusal.specs.declared.Refusal.{Refusal}
 use Rattle.onboard.specs.Entry.{Says, GoesOn}
 use Rattle.flight.specs.Flight.{Flew}
 use Rattle.mission.specs.declared.aloft.Aloft.{Aloft}

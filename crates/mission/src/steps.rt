@@ -5,7 +5,7 @@ ghost use Rattle.mission.specs.Steps.{with_reading, with_frame, up_frame, with_h
 use crate::aloft::{Aloft, Output};
 use frame::{Command, Telecommand, encode};
 use layout::WORDS;
-use onboard::{launch, tick};
+use onboard::{MEMORY_LENGTH, launch, tick};
 use parameters::INSTRUMENTS;
 use text::Event;
 
@@ -16,7 +16,7 @@ impl Aloft {
         ensures readings { result.readings ≡ replicate 16 0 }
         ensures frame { result.frame ≡ None }
     {
-        let mut memory = [0; 3 * WORDS];
+        let mut memory = [0; MEMORY_LENGTH];
         let _ = launch(&mut memory);
         Aloft {
             memory,

@@ -49,7 +49,7 @@ pub fn fly_lines<W: fmt::Write>(
     text: &[u8],
     out: &mut fmt::Formatter<W>,
 ) -> Result<(), Failure>
-    ensures flown { MatchResult result (λ _. IsPlainFormatter out.old → Flown W.Write.write_str_gives text.now out.old out.new) (λ f. Broke text.now f × Untouched f out.old out.new) }
+    ensures flown { MatchResult result (λ _. IsPlainFormatter out.old → FlownThrough W.Write.write_str_gives text.now out.old out.new) (λ f. Broke text.now f × Untouched f out.old out.new) }
     ensures flies { OnOk result (IsPlainFormatter out.old → Storied W.Write.write_str_gives text.now out.old out.new) }
 {
     check(heap, text)?;
@@ -58,7 +58,7 @@ pub fn fly_lines<W: fmt::Write>(
 
 // Flies a text, line by line, and writes what each tick gives.
 fn run<W: fmt::Write>(heap: Global, text: &[u8], out: &mut fmt::Formatter<W>) -> Result<(), Failure>
-    ensures { MatchResult result (λ _. IsPlainFormatter out.old → Flown W.Write.write_str_gives text.now out.old out.new) (λ f. Broke text.now f) }
+    ensures { MatchResult result (λ _. IsPlainFormatter out.old → FlownThrough W.Write.write_str_gives text.now out.old out.new) (λ f. Broke text.now f) }
 {
     let mut aloft = Aloft::launched();
     for read in Statements::<Event>::new(heap, text) {

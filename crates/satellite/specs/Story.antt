@@ -1,5 +1,6 @@
 -- What the satellite does in a tick, as steps from state to state.
 use Rattle.std.specs.Prelude.{ℕ, zero, suc, ◌+◌, Bool, true, false, cond, ◌&&◌, List, [], ◌∷◌, ◌++◌, length, Some, None, Option, ◌==◌, nat_lt, slice_set}
+use denote.Ref.{Bor}
 use Rattle.schedule.specs.declared.activity.Activity.{Activity}
 use Rattle.schedule.specs.declared.activity.Fate.{Fate}
 use Rattle.schedule.specs.Waiting.{fate_of, fated, is_waiting, is_missed, is_done, put_all}
@@ -9,12 +10,17 @@ use Rattle.frame.specs.declared.Command.{Command}
 use Rattle.frame.specs.declared.Telecommand.{Telecommand}
 use Rattle.frame.specs.Frame.{decoded}
 use Rattle.parameters.specs.Places.{may_put, read_in}
-use Rattle.satellite.specs.State.{State, with_time, with_expected, with_safe_mode, with_rejected, with_missed, with_parameters, with_schedule, with_rules, with_counts, parameter, rule, count}
+use Rattle.satellite.specs.State.{State, with_time, with_expected, with_safe_mode, with_rejected, with_missed, with_parameters, with_schedule, with_counts, parameter, rule, count}
 
 -- what a tick is given: sixteen readings, and the numbers of a frame, none if no frame came up
 pub record Inputs : Type 0 where
   pub readings : List ℕ
   pub frame : List ℕ
+
+-- the numbers of the frame that came up: none if none did
+abbrev pub came_up : Option (Bor (List ℕ)) → List ℕ
+came_up None = []
+came_up (Some frame) = frame.now
 
 -- time goes on by one and the instruments are read
 abbrev pub begun : List ℕ → State → State
@@ -50,25 +56,48 @@ released s =
     (with_parameters (put_all (fated is_done (fate_in s) s.schedule) s.parameters)
     (with_missed (s.missed + length (fated is_missed (fate_in s) s.schedule)) s))
 
--- whether a command can be done now
+-- whether a command can be done now: what is not named here always can
 abbrev pub can : State → Command → Bool
 can s (Command.Put place number) = may_put place
-can s (Command.Later activity) = may_put activity.place && (nat_lt s.time activity.release && nat_lt (length s.schedule) 32)
-can s Command.Forget = true
-can s Command.Sleep = true
-can s Command.Wake = true
+can s (Command.Later activity) =
+    may_put activity.place && (nat_lt s.time activity.release && nat_lt (length s.schedule) 32)
 can s (Command.SetRule index new) = nat_lt index 16 && may_set new
 can s (Command.Unknown kind) = false
+can s _ = true
 
--- what a command does that can be done
+-- what a command makes of each part of the state: what is not named leaves it
+abbrev pub parameters_by : Command → List ℕ → List ℕ
+parameters_by (Command.Put place number) xs = slice_set xs place number
+parameters_by _ xs = xs
+
+abbrev pub schedule_by : Command → List Activity → List Activity
+schedule_by (Command.Later activity) xs = xs ++ (activity ∷ [])
+schedule_by Command.Forget xs = []
+schedule_by _ xs = xs
+
+abbrev pub safe_mode_by : Command → Bool → Bool
+safe_mode_by Command.Sleep b = true
+safe_mode_by Command.Wake b = false
+safe_mode_by _ b = b
+
+-- a rule that is set begins from 0
+abbrev pub rules_by : Command → List Rule → List Rule
+rules_by (Command.SetRule index new) rs = slice_set rs index new
+rules_by _ rs = rs
+
+abbrev pub counts_by : Command → List ℕ → List ℕ
+counts_by (Command.SetRule index new) ns = slice_set ns index 0
+counts_by _ ns = ns
+
+-- what a command does that can be done; time and the counters it leaves
 abbrev pub done : State → Command → State
-done s (Command.Put place number) = with_parameters (slice_set s.parameters place number) s
-done s (Command.Later activity) = with_schedule (s.schedule ++ (activity ∷ [])) s
-done s Command.Forget = with_schedule [] s
-done s Command.Sleep = with_safe_mode true s
-done s Command.Wake = with_safe_mode false s
-done s (Command.SetRule index new) = with_rules (slice_set s.rules index new) (with_counts (slice_set s.counts index 0) s)
-done s (Command.Unknown kind) = s
+done s c = record s {
+  parameters = parameters_by c s.parameters;
+  schedule = schedule_by c s.schedule;
+  safe_mode = safe_mode_by c s.safe_mode;
+  rules = rules_by c s.rules;
+  counts = counts_by c s.counts;
+}
 
 abbrev pub rejecting : State → State
 rejecting s = with_rejected (suc s.rejected) s

@@ -5,8 +5,10 @@
 #[cfg(test)]
 mod tests {
     use frame::{Command, Telecommand, decode, encode};
-    use memory::vote;
-    use onboard::{Lent, Refusal, launch, tick};
+    use layout::WORDS;
+    use memory::{Kept, keep};
+    use onboard::{MEMORY_LENGTH, launch, tick};
+    use refusal::{Lent, Refusal};
     use rules::Rule;
     use schedule::Activity;
 
@@ -23,14 +25,14 @@ mod tests {
     // A satellite in flight, and what it answered last.
     #[derive(Clone, Copy)]
     struct Craft {
-        memory: [u64; 882],
+        memory: [u64; MEMORY_LENGTH],
         report: [u64; 8],
         done: Result<(), Refusal>,
     }
 
     impl Craft {
         fn launched() -> Craft {
-            let mut memory = [0; 882];
+            let mut memory = [0; MEMORY_LENGTH];
             let done = launch(&mut memory);
             let report = [0; 8];
             Craft {
@@ -60,9 +62,11 @@ mod tests {
             self.fly(QUIET, &[])
         }
 
-        // A word of memory, as its first copy has it.
+        // A word of memory, as it is read.
         fn word(&self, k: usize) -> u64 {
-            if k < 294 { self.memory[k] } else { 0 }
+            let mut words = [0; WORDS];
+            Kept::<WORDS>::new(&self.memory).read(&mut words);
+            if k < WORDS { words[k] } else { 0 }
         }
     }
 
@@ -114,14 +118,6 @@ mod tests {
             number,
         };
         Command::SetRule { index, rule }
-    }
-
-    #[test]
-    fn two_of_three(rt: HostRuntime) {
-        assert_eq!(rt; vote(7, 7, 9), 7);
-        assert_eq!(rt; vote(9, 7, 7), 7);
-        assert_eq!(rt; vote(7, 9, 7), 7);
-        assert_eq!(rt; vote(7, 8, 9), 7);
     }
 
     #[test]
@@ -250,6 +246,8 @@ mod tests {
         assert_eq!(rt; Refusal::Length(Lent::Frame).number(), 1);
         assert_eq!(rt; Refusal::Unfit { word: 70 }.number(), 2);
         assert_eq!(rt; Refusal::Unfit { word: 70 }.place(), 70);
+        assert_eq!(rt; Refusal::Unreadable { line: 4 }.number(), 3);
+        assert_eq!(rt; Refusal::Unreadable { line: 4 }.place(), 4);
     }
 
     #[test]
@@ -277,7 +275,7 @@ mod tests {
         );
         assert!(rt; memory == craft.memory);
         memory[70] = 2;
-        memory[294 + 70] = 2;
+        keep::<WORDS>(&mut memory);
         let hit = memory;
         assert_eq!(rt;
             tick(&mut memory, &QUIET, &[], &mut report),
