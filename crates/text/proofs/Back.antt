@@ -7,14 +7,14 @@ use Rattle.std.proofs.lemmas.Fmt.{digits_decimal, digits_value-decimal, decimal_
 use Rattle.std.proofs.lemmas.Str.Parse.{IsNumeralModel, tells_all_ascii_digits, numerals_by_fold}
 use Rattle.std.proofs.lemmas.Bool.{and_parts}
 use Rattle.text.specs.declared.words.Word.{Word}
-use Rattle.text.specs.declared.words.Word.TheVariants.{Number, Read, Up, Frame, Hit, Tick, Put, Later, Forget, Sleep, Wake, Rule, Other}
+use Rattle.text.specs.declared.words.Keyword.{Keyword}
 use Rattle.text.specs.declared.cut.Stop.{Stop}
 use Rattle.text.specs.declared.cut.Stop.TheVariants.{Line, Comment, Blank}
 use Rattle.text.specs.Cut.{stops, before, cut, grown}
 use Rattle.text.specs.Number.{onward, reads, number}
 use Rattle.text.specs.Render.{rendered}
 use Rattle.text.specs.Text.{spoken, Says}
-use Rattle.text.specs.Words.{Writable, worded, numbered, filled, spaced, line_words, lines, written, spelt}
+use Rattle.text.specs.Words.{Writable, spelling, worded, numbered, filled, spaced, line_words, lines, written, spelt}
 use Rattle.text.proofs.Telling.{spoken_some}
 
 -- numbers
@@ -95,21 +95,20 @@ high_digits : (ds : List ℕ) → all_ascii_digits ds ≡ true → High ds
 high_digits [] e = tt
 high_digits (d ∷ ds) e = let t = tells_all_ascii_digits.parts d ds e in (t.0.0, high_digits ds t.1)
 
-high : (w : Word) → Writable w → High (written w) × (0 < length (written w))
+-- what is spelt of a keyword has no byte that stops, and is read as that keyword, and so as no number and as no other
+keyword_high : (k : Keyword) → High (spelling k) × (0 < length (spelling k))
 unfolding high_test
-high (Number n) l = (high_digits (decimal n) (digits_decimal own n l), decimal_nonempty n l)
-high Read l = (high_from (written Read) refl, omega arith)
-high Up l = (high_from (written Up) refl, omega arith)
-high Frame l = (high_from (written Frame) refl, omega arith)
-high Hit l = (high_from (written Hit) refl, omega arith)
-high Tick l = (high_from (written Tick) refl, omega arith)
-high Put l = (high_from (written Put) refl, omega arith)
-high Later l = (high_from (written Later) refl, omega arith)
-high Forget l = (high_from (written Forget) refl, omega arith)
-high Sleep l = (high_from (written Sleep) refl, omega arith)
-high Wake l = (high_from (written Wake) refl, omega arith)
-high Rule l = (high_from (written Rule) refl, omega arith)
-high Other l = absurd l
+keyword_high Keyword.Read = (high_from (spelling Keyword.Read) refl, omega arith)
+keyword_high k = (high_from (spelling k) refl, omega arith)
+
+keyword_back : (k : Keyword) → worded (spelling k) ≡ Word.Keyword k
+keyword_back Keyword.Read = refl
+keyword_back _ = refl
+
+high : (w : Word) → Writable w → High (written w) × (0 < length (written w))
+high (Word.Number n) l = (high_digits (decimal n) (digits_decimal own n l), decimal_nonempty n l)
+high (Word.Keyword k) l = keyword_high k
+high Word.Other l = absurd l
 
 passes_not : (s : Stop) (b : ℕ) → 48 ≤ b → stops s b ≡ false
 passes_not Line b l = ne_eqb b 10 (λ e. omega arith)
@@ -121,19 +120,9 @@ free_high s [] h = tt
 free_high s (b ∷ bs) h = (passes_not s b h.0, free_high s bs h.1)
 
 word_back : (w : Word) → Writable w → worded (written w) ≡ w
-word_back (Number n) l = ap (λ r. numbered r (decimal n)) (number_back n l)
-word_back Read l = refl
-word_back Up l = refl
-word_back Frame l = refl
-word_back Hit l = refl
-word_back Tick l = refl
-word_back Put l = refl
-word_back Later l = refl
-word_back Forget l = refl
-word_back Sleep l = refl
-word_back Wake l = refl
-word_back Rule l = refl
-word_back Other l = absurd l
+word_back (Word.Number n) l = ap (λ r. numbered r (decimal n)) (number_back n l)
+word_back (Word.Keyword k) l = keyword_back k
+word_back Word.Other l = absurd l
 
 filled_some : (xs : List ℕ) (ps : List (List ℕ)) → 0 < length xs → filled (xs ∷ ps) ≡ xs ∷ filled ps
 filled_some xs ps l = ap (λ v. cond (not v) (xs ∷ filled ps) (filled ps)) (ne_eqb (length xs) 0 (λ e. omega (arith, e, l)))

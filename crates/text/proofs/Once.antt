@@ -52,13 +52,11 @@ mark_small false = omega arith
 pub command_writable : (c : Command) → command_bounded c ≡ true → All Writable (command_words c)
 command_writable (Command.Put a b) l = (tt, carried (a ∷ b ∷ []) l)
 command_writable (Command.Later a) l = (tt, carried (a.release ∷ a.place ∷ a.number ∷ []) l)
-command_writable Command.Forget l = (tt, tt)
-command_writable Command.Sleep l = (tt, tt)
-command_writable Command.Wake l = (tt, tt)
 command_writable (Command.SetRule k r) l =
     let t = carried (k ∷ r.watches ∷ r.limit ∷ r.needs ∷ r.place ∷ r.number ∷ []) l in
     (tt, (t.0, (t.1.0, (t.1.1.0, (mark_small r.upward, (t.1.1.1.0, (mark_small r.safes, (t.1.1.1.1.0, (t.1.1.1.1.1.0, tt)))))))))
 command_writable (Command.Unknown k) l = absurd (let z : ◌≡◌ {A = ℕ} 0 1 = cc in omega arith)
+command_writable _ l = (tt, tt)
 
 event_writable : (e : Event) → bounded e ≡ true → All Writable (event_words e)
 event_writable (Event.Read i v) l = let t = and_parts (ltb i 16) (ltb v 65536) l in (tt, (below i _ t.0 (omega arith), (below v _ t.1 (omega arith), tt)))

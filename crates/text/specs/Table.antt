@@ -6,27 +6,31 @@ use Rattle.schedule.specs.Numbers.{activity_numbers}
 use Rattle.rules.specs.Numbers.{rule_numbers}
 use Rattle.frame.specs.declared.Command.{Command}
 use Rattle.text.specs.declared.words.Word.{Word}
-use Rattle.text.specs.declared.words.Word.TheVariants.{Number, Read, Up, Frame, Hit, Tick, Put, Later, Forget, Sleep, Wake, Rule, Other}
+use Rattle.text.specs.declared.words.Word.TheVariants.{Number, Other}
+use Rattle.text.specs.declared.words.Keyword.{Keyword}
 use Rattle.text.specs.declared.event.Event.{Event}
 use Rattle.text.specs.Law.{bounded, command_bounded}
 
+-- a keyword and what follows it
+abbrev pub says : Keyword → List Word → List Word
+says k ws = Word.Keyword k ∷ ws
+
 -- an unknown command has no name
 abbrev pub command_words : Command → List Word
-command_words (Command.Put a b) = Put ∷ Number a ∷ Number b ∷ []
-command_words (Command.Later a) = Later ∷ map Number (activity_numbers a)
-command_words Command.Forget = Forget ∷ []
-command_words Command.Sleep = Sleep ∷ []
-command_words Command.Wake = Wake ∷ []
-command_words (Command.SetRule k r) =
-    Rule ∷ Number k ∷ map Number (rule_numbers r)
+command_words (Command.Put a b) = says Keyword.Put (map Number (a ∷ b ∷ []))
+command_words (Command.Later a) = says Keyword.Later (map Number (activity_numbers a))
+command_words Command.Forget = says Keyword.Forget []
+command_words Command.Sleep = says Keyword.Sleep []
+command_words Command.Wake = says Keyword.Wake []
+command_words (Command.SetRule k r) = says Keyword.Rule (map Number (k ∷ rule_numbers r))
 command_words (Command.Unknown k) = Other ∷ Number k ∷ []
 
 abbrev pub event_words : Event → List Word
-event_words (Event.Read i v) = Read ∷ Number i ∷ Number v ∷ []
-event_words (Event.Up n c) = Up ∷ Number n ∷ command_words c
-event_words (Event.Frame xs) = Frame ∷ map Number xs
-event_words (Event.Hit c w v) = Hit ∷ Number c ∷ Number w ∷ Number v ∷ []
-event_words Event.Tick = Tick ∷ []
+event_words (Event.Read i v) = says Keyword.Read (map Number (i ∷ v ∷ []))
+event_words (Event.Up n c) = says Keyword.Up (Number n ∷ command_words c)
+event_words (Event.Frame xs) = says Keyword.Frame (map Number xs)
+event_words (Event.Hit c w v) = says Keyword.Hit (map Number (c ∷ w ∷ v ∷ []))
+event_words Event.Tick = says Keyword.Tick []
 
 -- what has these words; if there is none, nothing that passes has them
 abbrev pub Found : {E : Type 0} → (E → List Word) → (E → Bool) → List Word → Option E → Type 0
@@ -47,18 +51,7 @@ Commands ws o = Found command_words command_bounded ws o
 
 abbrev pub amount : Word → Option ℕ
 amount (Number n) = Some n
-amount Read = None
-amount Up = None
-amount Frame = None
-amount Hit = None
-amount Tick = None
-amount Put = None
-amount Later = None
-amount Forget = None
-amount Sleep = None
-amount Wake = None
-amount Rule = None
-amount Other = None
+amount _ = None
 
 -- the words after `later` are those of an activity
 abbrev pub ActivityNumbers : List Word → Option Activity → Type 0

@@ -3,7 +3,7 @@ use Rattle.std.specs.Prelude.{◌≡◌, ℕ, ◌+◌, ◌<◌, Bool, true, fals
 use Rattle.std.specs.List.{AllByRecursion}
 use Rattle.frame.specs.declared.Command.{Command}
 use Rattle.text.specs.declared.words.Word.{Word}
-use Rattle.text.specs.declared.words.Word.TheVariants.{Number, Read, Up, Frame, Hit, Tick, Put, Later, Forget, Sleep, Wake, Rule, Other}
+use Rattle.text.specs.declared.words.Keyword.{Keyword}
 use Rattle.text.specs.declared.event.Event.{Event}
 use Rattle.text.specs.declared.fault.Expected.{Expected}
 use Rattle.text.specs.declared.fault.Fault.{Fault}
@@ -32,19 +32,12 @@ pub record FirstFault (E : Type 0) (table : E → List Word) (law : List E → B
 
 -- what a line should have been, by its first word
 abbrev pub wanted : Word → Expected
-wanted (Number n) = Expected.Event
-wanted Read = Expected.Read
-wanted Up = Expected.Up
-wanted Frame = Expected.Frame
-wanted Hit = Expected.Hit
-wanted Tick = Expected.Tick
-wanted Put = Expected.Event
-wanted Later = Expected.Event
-wanted Forget = Expected.Event
-wanted Sleep = Expected.Event
-wanted Wake = Expected.Event
-wanted Rule = Expected.Event
-wanted Other = Expected.Event
+wanted (Word.Keyword Keyword.Read) = Expected.Read
+wanted (Word.Keyword Keyword.Up) = Expected.Up
+wanted (Word.Keyword Keyword.Frame) = Expected.Frame
+wanted (Word.Keyword Keyword.Hit) = Expected.Hit
+wanted (Word.Keyword Keyword.Tick) = Expected.Tick
+wanted _ = Expected.Event
 
 abbrev pub by_first : List Word → Expected
 by_first [] = Expected.Event

@@ -6,7 +6,7 @@ use crate::event::{Event, event_of};
 use crate::fault::{Expected, Fault};
 use crate::law::{bounded, brings, heard_after};
 use crate::statement::{Statement, Statements, parse_all};
-use crate::words::Word;
+use crate::words::{Keyword, Word};
 use std::alloc::Global;
 
 /// The events of a text, in order; or its first line at fault, counted from 0, and what was expected there.
@@ -54,11 +54,11 @@ fn wanted(words: &[Word]) -> Expected
     ensures { result ≡ by_first words.now }
 {
     match words {
-        [Word::Read, ..] => Expected::Read,
-        [Word::Up, ..] => Expected::Up,
-        [Word::Frame, ..] => Expected::Frame,
-        [Word::Hit, ..] => Expected::Hit,
-        [Word::Tick, ..] => Expected::Tick,
+        [Word::Keyword(Keyword::Read), ..] => Expected::Read,
+        [Word::Keyword(Keyword::Up), ..] => Expected::Up,
+        [Word::Keyword(Keyword::Frame), ..] => Expected::Frame,
+        [Word::Keyword(Keyword::Hit), ..] => Expected::Hit,
+        [Word::Keyword(Keyword::Tick), ..] => Expected::Tick,
         _ => Expected::Event,
     }
 }
