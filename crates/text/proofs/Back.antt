@@ -11,9 +11,9 @@ use Rattle.text.specs.declared.words.Keyword.{Keyword}
 use Rattle.text.specs.declared.cut.Stop.{Stop}
 use Rattle.text.specs.declared.cut.Stop.TheVariants.{Line, Comment, Blank}
 use Rattle.text.specs.Cut.{stops, before, cut, grown}
-use Rattle.text.specs.Number.{onward, reads, number}
+use Rattle.text.specs.Number.{onward, read_digits, read_number}
 use Rattle.text.specs.Render.{rendered}
-use Rattle.text.specs.Text.{spoken, Says}
+use Rattle.text.specs.Text.{spoken, LinesSay}
 use Rattle.text.specs.Words.{Writable, spelling, worded, numbered, filled, spaced, line_words, lines, written, spelt}
 use Rattle.text.proofs.Telling.{spoken_some}
 
@@ -33,23 +33,23 @@ grows n [] = omega arith
 grows n (c ∷ cs) = omega (arith, grows (onward n c) cs)
 
 -- digits are read as what they write, if it is below 2^64
-reads_is : (n : ℕ) (ds : List ℕ) → all_ascii_digits ds ≡ true → read_on n ds < 2 ^ 64 → reads n ds ≡ Some (read_on n ds)
+digits_are : (n : ℕ) (ds : List ℕ) → all_ascii_digits ds ≡ true → read_on n ds < 2 ^ 64 → read_digits n ds ≡ Some (read_on n ds)
 unfolding read_on
-reads_is n [] e l = refl
-reads_is n (c ∷ cs) e l =
+digits_are n [] e l = refl
+digits_are n (c ∷ cs) e l =
     let t = and_parts (is_ascii_digit c) (all_ascii_digits cs) e in
-    ap (λ v. cond (v && ltb (onward n c) (2 ^ 64)) (reads (onward n c) cs) None) t.0
-    ∙ ap (λ v. cond v (reads (onward n c) cs) None) (lt-ltb (onward n c) (2 ^ 64) (omega (arith, grows (onward n c) cs)))
-    ∙ reads_is (onward n c) cs t.1 l
+    ap (λ v. cond (v && ltb (onward n c) (2 ^ 64)) (read_digits (onward n c) cs) None) t.0
+    ∙ ap (λ v. cond v (read_digits (onward n c) cs) None) (lt-ltb (onward n c) (2 ^ 64) (omega (arith, grows (onward n c) cs)))
+    ∙ digits_are (onward n c) cs t.1 l
 
-number_some : (xs : List ℕ) → 0 < length xs → number xs ≡ reads 0 xs
+number_some : (xs : List ℕ) → 0 < length xs → read_number xs ≡ read_digits 0 xs
 number_some [] h = absurd (omega arith)
 number_some (x ∷ xs) h = refl
 
-number_back : (n : ℕ) → n < 2 ^ 64 → number (decimal n) ≡ Some n
+number_back : (n : ℕ) → n < 2 ^ 64 → read_number (decimal n) ≡ Some n
 number_back n l =
     let v = digits_value-decimal own n l in
-    number_some (decimal n) (decimal_nonempty n l) ∙ reads_is 0 (decimal n) (digits_decimal own n l) (omega (arith, v)) ∙ ap Some v
+    number_some (decimal n) (decimal_nonempty n l) ∙ digits_are 0 (decimal n) (digits_decimal own n l) (omega (arith, v)) ∙ ap Some v
 
 -- cutting
 
@@ -148,7 +148,7 @@ line_back : (ws : List Word) → All Writable ws → line_words (spelt ws) ≡ w
 line_back ws a = ap spaced (before_free (stops Comment) (spelt ws) (free_spelt Comment refl ws a)) ∙ spaced_back ws a
 
 -- the text that is written of things says them
-pub says_back : {E : Type 0} (table : E → List Word) → ((e : E) → table e ≡ [] → ⊥) → (es : List E) → All (λ (e : E). All Writable (table e)) es → Says table (lines (rendered table es)) es
+pub says_back : {E : Type 0} (table : E → List Word) → ((e : E) → table e ≡ [] → ⊥) → (es : List E) → All (λ (e : E). All Writable (table e)) es → LinesSay table (lines (rendered table es)) es
 says_back table some [] a = refl
 says_back table some (e ∷ es) a =
     ap (λ ps. spoken (map line_words ps)) (cut_at (stops Line) (spelt (table e)) (rendered table es) 10 (free_spelt Line refl (table e) a.0) refl)

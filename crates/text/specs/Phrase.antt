@@ -37,5 +37,5 @@ abbrev pub misread_by : (program of text : List ℕ) → Fault → List ℕ
 misread_by program of text (Unreadable n x) = misread_line program of n (number_from_1 n) (phrase x) (shown (slice_index_or (cut (stops Line) text) n []))
 misread_by program of text Memory = program ++ codes ": no memory left"
 
-abbrev pub misread : Misread → List ℕ
-misread m = misread_by m.program.now m.of.now m.text.now m.fault
+abbrev pub misread_text : Misread → List ℕ
+misread_text m = misread_by m.program.now m.of.now m.text.now m.fault

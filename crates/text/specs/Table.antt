@@ -11,26 +11,22 @@ use Rattle.text.specs.declared.words.Keyword.{Keyword}
 use Rattle.text.specs.declared.event.Event.{Event}
 use Rattle.text.specs.Law.{bounded, command_bounded}
 
--- a keyword and what follows it
-abbrev pub says : Keyword → List Word → List Word
-says k ws = Word.Keyword k ∷ ws
-
 -- an unknown command has no name
 abbrev pub command_words : Command → List Word
-command_words (Command.Put a b) = says Keyword.Put (map Number (a ∷ b ∷ []))
-command_words (Command.Later a) = says Keyword.Later (map Number (activity_numbers a))
-command_words Command.Forget = says Keyword.Forget []
-command_words Command.Sleep = says Keyword.Sleep []
-command_words Command.Wake = says Keyword.Wake []
-command_words (Command.SetRule k r) = says Keyword.Rule (map Number (k ∷ rule_numbers r))
+command_words (Command.Put a b) = Word.Keyword Keyword.Put ∷ map Number (a ∷ b ∷ [])
+command_words (Command.Later a) = Word.Keyword Keyword.Later ∷ map Number (activity_numbers a)
+command_words Command.Forget = Word.Keyword Keyword.Forget ∷ []
+command_words Command.Sleep = Word.Keyword Keyword.Sleep ∷ []
+command_words Command.Wake = Word.Keyword Keyword.Wake ∷ []
+command_words (Command.SetRule k r) = Word.Keyword Keyword.Rule ∷ map Number (k ∷ rule_numbers r)
 command_words (Command.Unknown k) = Other ∷ Number k ∷ []
 
 abbrev pub event_words : Event → List Word
-event_words (Event.Read i v) = says Keyword.Read (map Number (i ∷ v ∷ []))
-event_words (Event.Up n c) = says Keyword.Up (Number n ∷ command_words c)
-event_words (Event.Frame xs) = says Keyword.Frame (map Number xs)
-event_words (Event.Hit c w v) = says Keyword.Hit (map Number (c ∷ w ∷ v ∷ []))
-event_words Event.Tick = says Keyword.Tick []
+event_words (Event.Read i v) = Word.Keyword Keyword.Read ∷ map Number (i ∷ v ∷ [])
+event_words (Event.Up n c) = Word.Keyword Keyword.Up ∷ Number n ∷ command_words c
+event_words (Event.Frame xs) = Word.Keyword Keyword.Frame ∷ map Number xs
+event_words (Event.Hit c w v) = Word.Keyword Keyword.Hit ∷ map Number (c ∷ w ∷ v ∷ [])
+event_words Event.Tick = Word.Keyword Keyword.Tick ∷ []
 
 -- what has these words; if there is none, nothing that passes has them
 abbrev pub Found : {E : Type 0} → (E → List Word) → (E → Bool) → List Word → Option E → Type 0

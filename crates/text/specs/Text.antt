@@ -12,7 +12,7 @@ use Rattle.text.specs.declared.fault.Unread.{Unread}
 use Rattle.text.specs.declared.fault.Unread.TheVariants as unread
 use Rattle.text.specs.Words.{lines, Writable}
 use Rattle.text.specs.Table.{command_words, event_words, Finds}
-use Rattle.text.specs.Law.{bounded, allowed, after, command_bounded, all_said}
+use Rattle.text.specs.Law.{bounded, allowed, heard_after, command_bounded, all_said}
 
 -- the lines that have words
 abbrev pub spoken : List (List Word) → List (List Word)
@@ -21,14 +21,14 @@ spoken ([] ∷ ls) = spoken ls
 spoken ((w ∷ ws) ∷ ls) = (w ∷ ws) ∷ spoken ls
 
 -- they have the words of these things, in order
-abbrev pub Says : {E : Type 0} → (E → List Word) → List (List Word) → List E → Type 0
-Says table ls es = spoken ls ≡ map table es
+abbrev pub LinesSay : {E : Type 0} → (E → List Word) → List (List Word) → List E → Type 0
+LinesSay table ls es = spoken ls ≡ map table es
 
 -- the first n lines say something lawful, and with the next one they do not
 pub record FirstFault (E : Type 0) (table : E → List Word) (law : List E → Bool) (ls : List (List Word)) (n : ℕ) : Type 0 where
   pub within : n < length ls
-  pub before : (es : List E) × Says table (take n ls) es × (law es ≡ true)
-  pub silent : (es : List E) → Says table (take (n + 1) ls) es → law es ≢ true
+  pub before : (es : List E) × LinesSay table (take n ls) es × (law es ≡ true)
+  pub silent : (es : List E) → LinesSay table (take (n + 1) ls) es → law es ≢ true
 
 -- what a line should have been, by its first word
 abbrev pub wanted : Word → Expected
@@ -51,22 +51,18 @@ Sound ws = (e : Event) × (bounded e ≡ true) × (ws ≡ event_words e)
 abbrev pub Expects : List Word → Expected → Type 0
 Expects ws x = (Sound ws → x ≡ Expected.TickFirst) × ((Sound ws → ⊥) → x ≡ by_first ws)
 
--- the event in its bounds that has these words
-abbrev pub Bounded : List Word → Option Event → Type 0
-Bounded ws o = Finds event_words bounded ws o
-
 -- what may be said in a text: the words of each thing, when it may be said, what it leaves for the lines after it, and what a line should have been that says none
 pub record Language (E : Type 0) : Type 1 where
   pub words : E → List Word
   pub may : Bool → E → Bool
-  pub after : Bool → E → Bool
+  pub heard_after : Bool → E → Bool
   pub Expects : List Word → Expected → Type 0
 
 abbrev pub flights : Language Event
-flights = record { words = event_words; may = allowed; after = after; Expects = Expects }
+flights = record { words = event_words; may = allowed; heard_after = heard_after; Expects = Expects }
 
 abbrev pub orders : Language Command
-orders = record { words = command_words; may = λ _ c. command_bounded c; after = λ heard _. heard; Expects = λ _ x. x ≡ Expected.Command }
+orders = record { words = command_words; may = λ _ c. command_bounded c; heard_after = λ heard _. heard; Expects = λ _ x. x ≡ Expected.Command }
 
 -- what is written in a language can be read back: its words tell what a thing is, there is one at least, and they can be written
 pub record Readable {E : Type 0} (l : Language E) : Type 0 where
@@ -93,27 +89,13 @@ module _ {E : Type 0} (l : Language E) where
 
   -- a text says these things, and they are lawful
   abbrev pub Tells : List ℕ → List E → Type 0
-  Tells text es = Says l.words (lines text) es × (all_said l.may l.after false es ≡ true)
+  Tells text es = LinesSay l.words (lines text) es × (all_said l.may l.heard_after false es ≡ true)
 
   -- its first line at fault
   abbrev pub Fails : List ℕ → Fault → Type 0
-  Fails text (Unreadable n x) = FirstFault E l.words (all_said l.may l.after false) (lines text) n × l.Expects (slice_index_or (lines text) n []) x
+  Fails text (Unreadable n x) = FirstFault E l.words (all_said l.may l.heard_after false) (lines text) n × l.Expects (slice_index_or (lines text) n []) x
   Fails text Memory = Unit {0}
 
 abbrev pub fault_at : ℕ → Unread → Fault
 fault_at n (unread.Expected x) = Unreadable n x
 fault_at n unread.Memory = Memory
-
--- a text says these events, and they are lawful
-abbrev pub Told : List ℕ → List Event → Type 0
-Told text es = Tells flights text es
-
-abbrev pub Failed : List ℕ → Fault → Type 0
-Failed text f = Fails flights text f
-
--- a text says these commands, and they are lawful
-abbrev pub Ordered : List ℕ → List Command → Type 0
-Ordered text cs = Tells orders text cs
-
-abbrev pub Disordered : List ℕ → Fault → Type 0
-Disordered text f = Fails orders text f

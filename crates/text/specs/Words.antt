@@ -5,7 +5,7 @@ use Rattle.text.specs.declared.words.Word.{Word}
 use Rattle.text.specs.declared.words.Keyword.{Keyword}
 use Rattle.text.specs.declared.cut.Stop.TheVariants.{Line, Comment, Blank}
 use Rattle.text.specs.Cut.{stops, before, cut}
-use Rattle.text.specs.Number.{number}
+use Rattle.text.specs.Number.{read_number}
 
 -- how each keyword is spelt
 abbrev pub spelling : Keyword → List ℕ
@@ -42,7 +42,7 @@ numbered (Some n) bs = Word.Number n
 numbered None bs = keyword_or_other (named bs)
 
 abbrev pub worded : List ℕ → Word
-worded bs = numbered (number bs) bs
+worded bs = numbered (read_number bs) bs
 
 -- those that are not empty
 abbrev pub filled : List (List ℕ) → List (List ℕ)

@@ -1,6 +1,8 @@
 //! Reads a flight text.
 ghost use Rattle.std.specs.Prelude.{◌≡◌, List, MatchResult};
-ghost use Rattle.text.specs.Text.{by_first, flights, Bounded, Told, Failed};
+ghost use Rattle.text.specs.Law.{bounded as bounds};
+ghost use Rattle.text.specs.Table.{event_words, Finds};
+ghost use Rattle.text.specs.Text.{by_first, flights, Tells, Fails};
 
 use crate::event::{Event, event_of};
 use crate::fault::{Expected, Fault};
@@ -11,14 +13,14 @@ use std::alloc::Global;
 
 /// The events of a text, in order; or its first line at fault, counted from 0, and what was expected there.
 pub fn parse(heap: Global, text: &[u8]) -> Result<Vec<Event>, Fault>
-    ensures { MatchResult result (λ v. Told text.now v.items) (λ f. Failed text.now f) }
+    ensures { MatchResult result (λ v. Tells flights text.now v.items) (λ f. Fails flights text.now f) }
 {
     parse_all(heap, text)
 }
 
 /// Reads a whole text and keeps nothing of it: whether it can be read, or its first line at fault.
 pub fn check(heap: Global, text: &[u8]) -> Result<(), Fault>
-    ensures { MatchResult result (λ _. (es : List Event) × Told text.now es) (λ f. Failed text.now f) }
+    ensures { MatchResult result (λ _. (es : List Event) × Tells flights text.now es) (λ f. Fails flights text.now f) }
 {
     for read in Statements::<Event>::new(heap, text) {
         let _ = read?;
@@ -44,7 +46,7 @@ impl Statement for Event {
 
 // The event that words say, if its numbers lie in their bounds.
 fn bounded_event(words: &[Word]) -> Option<Event>
-    ensures { Bounded words.now result }
+    ensures { Finds event_words bounds words.now result }
 {
     event_of(words).filter(|event| bounded(*event))
 }

@@ -1,6 +1,6 @@
 //! What is said of a text that is not read.
 ghost use Rattle.std.specs.Prelude.{◌≡◌, Some};
-ghost use Rattle.text.specs.Phrase.{shown, misread};
+ghost use Rattle.text.specs.Phrase.{shown, misread_text};
 
 use crate::cut::line_at;
 use crate::fault::Fault;
@@ -18,7 +18,7 @@ pub struct Misread<'a> {
 }
 
 impl<'a> fmt::Display for Misread<'a> {
-    ghost output = { λ m. Some (misread m) };
+    ghost output = { λ m. Some (misread_text m) };
 
     fn fmt<W: fmt::Write>(&self, f: &mut fmt::Formatter<W>) -> fmt::Result {
         let program = self.program;

@@ -3,7 +3,7 @@ ghost use Rattle.std.specs.Prelude.{◌≡◌, true, IfOk, string_bytes, MatchRe
 ghost use Rattle.text.specs.Law.{all_commandable};
 ghost use Rattle.text.specs.Render.{rendered, Only};
 ghost use Rattle.text.specs.Table.{command_words, Numbers};
-ghost use Rattle.text.specs.Text.{orders, Ordered, Disordered};
+ghost use Rattle.text.specs.Text.{orders, Tells, Fails};
 ghost use Rattle.text.specs.Words.{line_words};
 
 use crate::event::{command_of, numbers};
@@ -17,7 +17,7 @@ use std::alloc::{AllocError, Global};
 
 /// The commands of a text, in order; or its first line at fault, counted from 0.
 pub fn parse_commands(heap: Global, text: &[u8]) -> Result<Vec<Command>, Fault>
-    ensures { MatchResult result (λ v. Ordered text.now v.items) (λ f. Disordered text.now f) }
+    ensures { MatchResult result (λ v. Tells orders text.now v.items) (λ f. Fails orders text.now f) }
 {
     parse_all(heap, text)
 }
@@ -40,7 +40,7 @@ impl Statement for Command {
 /// A text that says the commands, one to a line. Where they are lawful, parsing it gives them back.
 pub fn render_commands(heap: Global, commands: &[Command]) -> Result<String, AllocError>
     ensures text { IfOk result (λ s. string_bytes s ≡ rendered command_words commands.now) }
-    ensures back { IfOk result (λ s. all_commandable commands.now ≡ true → Only Command (Ordered (string_bytes s)) (Disordered (string_bytes s)) commands.now) }
+    ensures back { IfOk result (λ s. all_commandable commands.now ≡ true → Only Command (Tells orders (string_bytes s)) (Fails orders (string_bytes s)) commands.now) }
 {
     lines_of::<Command, Order>(heap, commands)
 }

@@ -3,7 +3,7 @@ ghost use Rattle.std.specs.Prelude.{◌≡◌, false, MatchResult};
 ghost use Rattle.std.specs.Iterator.{item_count};
 ghost use Rattle.text.specs.Cut.{stops, cut};
 ghost use Rattle.text.specs.declared.cut.Stop.TheVariants.{Line};
-ghost use Rattle.text.specs.Lines.{rest, line as line_number, IsNumbered, left_by, reads_next};
+ghost use Rattle.text.specs.Lines.{rest, line_number, IsNumbered, left_by, reads_next};
 ghost use Rattle.text.specs.Text.{Language, Readable, IsSaid, Unsaid, Reads, Tells, Fails};
 ghost use Rattle.text.specs.Words.{line_words};
 
@@ -24,7 +24,7 @@ pub trait Statement: Copy {
 
     /// Whether a frame has come up since the last tick, after this too.
     fn heard_after(self, heard: bool) -> bool
-        ensures { result ≡ language.after heard self };
+        ensures { result ≡ language.heard_after heard self };
 }
 
 /// Reads a line, after a frame in this tick or not; nothing where it has no words.

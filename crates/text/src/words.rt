@@ -1,6 +1,6 @@
 //! The words of a line.
 ghost use Rattle.std.specs.Prelude.{◌≡◌, [], ◌∷◌, IfOk};
-ghost use Rattle.text.specs.Number.{number as reading, reads};
+ghost use Rattle.text.specs.Number.{read_number, read_digits};
 ghost use Rattle.text.specs.Table.{amount as amounts};
 ghost use Rattle.text.specs.Words.{named as naming, worded, spaced, line_words};
 
@@ -71,7 +71,7 @@ fn word_of(bytes: &[u8]) -> Word
 
 // The number that a word of digits writes, if it is below 2^64.
 fn number(word: &[u8]) -> Option<u64>
-    ensures { result ≡ reading word.now }
+    ensures { result ≡ read_number word.now }
 {
     if word.is_empty() {
         return None;
@@ -85,7 +85,7 @@ fn number(word: &[u8]) -> Option<u64>
 
 // A number with one digit more, if that is a digit and the number stays below 2^64.
 fn onward(n: u64, b: u8) -> Option<u64>
-    ensures { result ≡ reads n (b ∷ []) }
+    ensures { result ≡ read_digits n (b ∷ []) }
 {
     if !b.is_ascii_digit() {
         return None;
