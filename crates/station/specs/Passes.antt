@@ -2,11 +2,12 @@
 use Rattle.std.specs.Prelude.{◌≡◌, ℕ, suc, ◌*◌, ◌<◌, ◌≤◌, List, [], ◌∷◌, ◌++◌, reverse, length, take, Some}
 use Rattle.frame.specs.declared.Command.{Command}
 use Rattle.frame.specs.declared.Telecommand.{Telecommand}
+use Rattle.frame.specs.File.{telecommand_of, Sendable}
 use Rattle.satellite.specs.Story.{Inputs}
 use Rattle.telemetry.specs.Reports.{report_of}
 use Rattle.flight.specs.Flight.{after}
 use Rattle.flight.specs.Commanding.{heard, obeyed_in}
-use Rattle.station.specs.Line.{telecommand_of, frame_for, Sendable}
+use Rattle.station.specs.Line.{frame_for}
 
 -- a flight over the ground's line: whatever is heard is a command of the file under its number, however often, late and out of order
 abbrev pub FromFile : List Command → List Inputs → Type 0

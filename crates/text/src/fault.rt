@@ -2,10 +2,11 @@
 ghost use Rattle.std.specs.Prelude.{◌≡◌, Some};
 ghost use Rattle.text.specs.declared.fault.Fault.TheVariants.{Memory};
 ghost use Rattle.text.specs.declared.fault.Unread.TheVariants as unread;
-ghost use Rattle.text.specs.Phrase.{phrase};
+ghost use Rattle.text.specs.Phrase.{phrase, refusal_of};
 ghost use Rattle.text.specs.Text.{fault_at};
 
 use crate::law::WORDS;
+use refusal::Refusal;
 use std::alloc::{AllocError, AllocFailed};
 use std::fmt;
 
@@ -35,6 +36,18 @@ pub enum Fault {
     Unreadable { line: usize, expected: Expected },
     /// There is no memory left.
     Memory,
+}
+
+impl Fault {
+    /// The refusal by which programs know it; want of memory is none.
+    pub fn refusal(self) -> Option<Refusal>
+        ensures { result ≡ refusal_of self }
+    {
+        match self {
+            Fault::Unreadable { line, .. } => Some(Refusal::Unreadable { line }),
+            Fault::Memory => None,
+        }
+    }
 }
 
 /// Why a line is not read.

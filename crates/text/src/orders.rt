@@ -1,5 +1,6 @@
 //! Reads and writes a text of commands, one to a line, in the order of their numbers; and reads a report.
-ghost use Rattle.std.specs.Prelude.{◌≡◌, true, IfOk, string_bytes, MatchResult};
+ghost use Rattle.std.specs.Prelude.{◌≡◌, ◌≤◌, ◌^◌, true, length, IfOk, string_bytes, MatchResult};
+ghost use Rattle.frame.specs.File.{Sendable};
 ghost use Rattle.text.specs.Law.{all_commandable};
 ghost use Rattle.text.specs.Render.{rendered, Only};
 ghost use Rattle.text.specs.Table.{command_words, Numbers};
@@ -15,9 +16,11 @@ use crate::write::{Order, lines_of};
 use frame::Command;
 use std::alloc::{AllocError, Global};
 
-/// The commands of a text, in order; or its first line at fault, counted from 0.
+/// The commands of a text, in order; or its first line at fault, counted from 0. Where there are 2^32 at most, so that
+/// each has its number, all can be sent.
 pub fn parse_commands(heap: Global, text: &[u8]) -> Result<Vec<Command>, Fault>
-    ensures { MatchResult result (λ v. Tells orders text.now v.items) (λ f. Fails orders text.now f) }
+    ensures read { MatchResult result (λ v. Tells orders text.now v.items) (λ f. Fails orders text.now f) }
+    ensures sendable { IfOk result (λ v. length v.items ≤ 2 ^ 32 → Sendable v.items) }
 {
     parse_all(heap, text)
 }
