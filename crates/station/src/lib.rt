@@ -5,11 +5,12 @@
 ghost use Rattle.std.specs.Prelude.{◌≡◌, Some, None};
 ghost use Rattle.station.specs.Line.{frame_for, expected_of, rejected_of, later_of};
 ghost use Rattle.station.specs.Passes.{SurelyObeyed, ComesThrough, AllObeyed};
+ghost use Rattle.station.specs.Relay.{DeliveredOver, CanDeliver};
 
 use frame::{Command, Telecommand, encode};
 use telemetry::Report;
 
-/// A file of commands, telecommand_of from 0, and the latest report heard.
+/// A file of commands, numbered from 0, and the latest report heard.
 #[derive(Drop)]
 pub struct Station {
     commands: Vec<Command>,
@@ -88,4 +89,11 @@ pub fn comes_through()
 /// Over a line that brings one frame in any d ticks, n commands are obeyed in at most d * n ticks.
 pub fn all_obeyed()
     ensures { AllObeyed }
+{}
+
+/// There are flights over such a line: where the ground sends in each tick what it names, one over each line that is up
+/// once at least in any d ticks; so one for each file that can be sent, which obeys it all.
+pub fn delivered_over()
+    ensures over { DeliveredOver }
+    ensures exists { CanDeliver }
 {}
