@@ -85,7 +85,7 @@ module _ {E : Type 0} (l : Language E) where
         (u.writable h e t.0, all_writable_from (l.heard_after h e) es t.1)
 
     -- the text of what is lawful is read as that
-    pub read_back : (es : List E) → all_said l.may l.heard_after false es ≡ true → Only E (Tells l (rendered l.words es)) (Fails l (rendered l.words es)) es
+    pub read_back : (es : List E) → all_said l.may l.heard_after false es ≡ true → Only l (rendered l.words es) es
     read_back es p =
         let t : Tells l (rendered l.words es) es = (says_back l.words u.some es (all_writable_from false es p), p) in
         record {

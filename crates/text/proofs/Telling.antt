@@ -82,7 +82,7 @@ module _ {E : Type 0} (l : Language E) where
         hears = k ∙ ap (λ (v : Bool). l.heard_after v d) s.hears ∙ sym (after_push l.heard_after false es d);
       }
 
-      stopped : Readable l → (line_words bs ≡ [] → ⊥) → ((d : E) → l.may heard d ≡ true → line_words bs ≡ l.words d → ⊥) → FirstFault E l.words (all_said l.may l.heard_after false) (lines text) line
+      stopped : Readable l → (line_words bs ≡ [] → ⊥) → ((d : E) → l.may heard d ≡ true → line_words bs ≡ l.words d → ⊥) → FirstFault l (lines text) line
       stopped u n never =
           record {
             within = omega (arith, ap length on, length-append (s.done ++ line_words bs ∷ []) (map line_words more), length_push s.done (line_words bs), s.long);

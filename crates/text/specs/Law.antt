@@ -18,7 +18,8 @@ command_bounded (Command.Later a) = all_below 4294967296 (a.release ∷ a.place 
 command_bounded Command.Forget = true
 command_bounded Command.Sleep = true
 command_bounded Command.Wake = true
-command_bounded (Command.SetRule k r) = all_below 4294967296 (k ∷ r.watches ∷ r.limit ∷ r.needs ∷ r.place ∷ r.number ∷ [])
+command_bounded (Command.SetRule k r) =
+    all_below 4294967296 (k ∷ r.watches ∷ r.limit ∷ r.needs ∷ r.place ∷ r.number ∷ [])
 command_bounded (Command.Unknown k) = false
 
 abbrev pub bounded : Event → Bool
@@ -54,11 +55,3 @@ all_said may after heard (e ∷ es) = may heard e && all_said may after (after h
 abbrev pub after_all : {E : Type 0} → (Bool → E → Bool) → Bool → List E → Bool
 after_all after heard [] = heard
 after_all after heard (e ∷ es) = after_all after (after heard e) es
-
--- the events of a text, from its start
-abbrev pub lawful : List Event → Bool
-lawful es = all_said allowed heard_after false es
-
--- the commands of a text, of which each may be said whatever the others are
-abbrev pub all_commandable : List Command → Bool
-all_commandable cs = all_said (λ _ c. command_bounded c) (λ heard _. heard) false cs

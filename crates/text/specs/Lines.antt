@@ -24,7 +24,8 @@ module _ {E : Type 0} where
     -- what a line says, or the fault at its number
     abbrev pub ReadsAt : ℕ → Bool → List ℕ → Result (Option E) Fault → Type 0
     ReadsAt n heard bs (Ok o) = Reads l heard (line_words bs) (Ok o)
-    ReadsAt n heard bs (Err (Unreadable m x)) = (m ≡ n) × Reads l heard (line_words bs) (Err (unread.Expected x))
+    ReadsAt n heard bs (Err (Unreadable m x)) =
+        (m ≡ n) × Reads l heard (line_words bs) (Err (unread.Expected x))
     ReadsAt n heard bs (Err Memory) = Unit {0}
 
     -- what it leaves for the next line
@@ -36,4 +37,5 @@ module _ {E : Type 0} where
     abbrev pub reads_next : Statements E → Option (Result (Option E) Fault) → Statements E → Type 0
     reads_next s None t = (rest s ≡ []) × (rest t ≡ [])
     reads_next s (Some r) t =
-        (bs : List ℕ) × (rest s ≡ bs ∷ rest t) × (line_number t ≡ line_number s + 1) × ReadsAt (line_number s) s.heard bs r × (t.heard ≡ left_by s.heard r)
+        (bs : List ℕ) × (rest s ≡ bs ∷ rest t) × (line_number t ≡ line_number s + 1) ×
+        ReadsAt (line_number s) s.heard bs r × (t.heard ≡ left_by s.heard r)

@@ -23,7 +23,9 @@ phrase Expected.Event = codes "`read`, `up`, `frame`, `hit` or `tick`"
 phrase Expected.Read = codes "`read I V`, I below 16 and V below 65536"
 phrase Expected.Up = codes "`up N` and " ++ command_phrase
 phrase Expected.Frame = codes "`frame` and twelve numbers below 18446744073709551616"
-phrase Expected.Hit = codes "`hit C W V`, C below 3, W below " ++ (decimal kept_words ++ codes " and V below 18446744073709551616")
+phrase Expected.Hit =
+    codes "`hit C W V`, C below 3, W below "
+    ++ (decimal kept_words ++ codes " and V below 18446744073709551616")
 phrase Expected.Tick = codes "`tick` alone"
 phrase Expected.Command = command_phrase
 phrase Expected.TickFirst = codes "`tick` before another frame comes up"
@@ -49,11 +51,13 @@ for_programs (Some r) = turned_text (turned r) ++ (10 ∷ [])
 -- the line for people: their line m should have been x, and y was found
 abbrev pub explained : (program of : List ℕ) (m : ℕ) (x y : List ℕ) → List ℕ
 explained program of m x y =
-    program ++ (codes ": line " ++ (decimal m ++ (of ++ (codes ": expected " ++ (x ++ (codes "; found " ++ y))))))
+    program ++ (codes ": line " ++ (decimal m
+    ++ (of ++ (codes ": expected " ++ (x ++ (codes "; found " ++ y))))))
 
 abbrev pub for_people : (program of text : List ℕ) → Fault → List ℕ
 for_people program of text (Unreadable n x) =
-    explained program of (number_from_1 n) (phrase x) (shown (slice_index_or (cut (stops Line) text) n []))
+    explained program of (number_from_1 n) (phrase x)
+    (shown (slice_index_or (cut (stops Line) text) n []))
 for_people program of text Memory = program ++ codes ": no memory left"
 
 abbrev pub misread_text : Misread → List ℕ

@@ -38,7 +38,7 @@ abbrev pub Finds : {E : Type 0} → (E → List Word) → (E → Bool) → List 
 Finds {E} table passes ws None = (e : E) → passes e ≡ true → ws ≢ table e
 Finds table passes ws (Some e) = (passes e ≡ true) × (ws ≡ table e)
 
--- what words are read as: the event that has them; if there is none, none that may be said has them
+-- what words are read as: the event that has them; if there is none, none in its bounds has them
 abbrev pub Events : List Word → Option Event → Type 0
 Events ws o = Found event_words bounded ws o
 

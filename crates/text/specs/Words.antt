@@ -23,7 +23,8 @@ spelling Keyword.Rule = codes "rule"
 
 abbrev pub keywords : List Keyword
 keywords =
-    Keyword.Read ∷ Keyword.Up ∷ Keyword.Frame ∷ Keyword.Hit ∷ Keyword.Tick ∷ Keyword.Put ∷ Keyword.Later ∷ Keyword.Forget ∷ Keyword.Sleep ∷ Keyword.Wake ∷ Keyword.Rule ∷ []
+    Keyword.Read ∷ Keyword.Up ∷ Keyword.Frame ∷ Keyword.Hit ∷ Keyword.Tick ∷ Keyword.Put
+    ∷ Keyword.Later ∷ Keyword.Forget ∷ Keyword.Sleep ∷ Keyword.Wake ∷ Keyword.Rule ∷ []
 
 -- the first of some keywords that is spelt so
 abbrev pub spelt_by : List ℕ → List Keyword → Option Keyword

@@ -26,10 +26,16 @@ pub fn event_of(words: &[Word]) -> Option<Event>
     ensures { Events words.now result }
 {
     match *words {
-        [Word::Keyword(Keyword::Read), Word::Number(instrument), Word::Number(value)] => {
-            Some(Event::Read { instrument, value })
-        }
-        [Word::Keyword(Keyword::Up), Word::Number(number), ref rest @ ..] => {
+        [
+            Word::Keyword(Keyword::Read),
+            Word::Number(instrument),
+            Word::Number(value),
+        ] => Some(Event::Read { instrument, value }),
+        [
+            Word::Keyword(Keyword::Up),
+            Word::Number(number),
+            ref rest @ ..,
+        ] => {
             let command = command_of(rest)?;
             Some(Event::Up { number, command })
         }
@@ -53,9 +59,11 @@ pub fn command_of(words: &[Word]) -> Option<Command>
     ensures { Commands words.now result }
 {
     match *words {
-        [Word::Keyword(Keyword::Put), Word::Number(place), Word::Number(number)] => {
-            Some(Command::Put { place, number })
-        }
+        [
+            Word::Keyword(Keyword::Put),
+            Word::Number(place),
+            Word::Number(number),
+        ] => Some(Command::Put { place, number }),
         [Word::Keyword(Keyword::Later), ref rest @ ..] => {
             let activity = activity_of(rest)?;
             Some(Command::Later { activity })
@@ -63,7 +71,11 @@ pub fn command_of(words: &[Word]) -> Option<Command>
         [Word::Keyword(Keyword::Forget)] => Some(Command::Forget),
         [Word::Keyword(Keyword::Sleep)] => Some(Command::Sleep),
         [Word::Keyword(Keyword::Wake)] => Some(Command::Wake),
-        [Word::Keyword(Keyword::Rule), Word::Number(index), ref rest @ ..] => {
+        [
+            Word::Keyword(Keyword::Rule),
+            Word::Number(index),
+            ref rest @ ..,
+        ] => {
             let rule = rule_of(rest)?;
             Some(Command::SetRule { index, rule })
         }

@@ -12,7 +12,8 @@ use std::fmt;
 
 // What people are told that a command is.
 const COMMAND: &str =
-    "`put A B`, `later A B C`, `forget`, `sleep`, `wake` or `rule A B C D E F G H`, each number below 4294967296, D and F 0 or 1";
+    "`put A B`, `later A B C`, `forget`, `sleep`, `wake` or `rule A B C D E F G H`, \
+    each number below 4294967296, D and F 0 or 1";
 
 /// What a line should have been.
 #[derive(Clone, Copy, Debug, Drop)]

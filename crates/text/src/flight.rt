@@ -11,16 +11,18 @@ use crate::statement::{Statement, Statements, parse_all};
 use crate::words::{Keyword, Word};
 use std::alloc::Global;
 
-/// The events of a text, in order; or its first line at fault, counted from 0, and what was expected there.
+/// The events of a text, in order; or its first line at fault, counted from 0, and what was
+/// expected there.
 pub fn parse(heap: Global, text: &[u8]) -> Result<Vec<Event>, Fault>
-    ensures { MatchResult result (λ v. Tells flights text.now v.items) (λ f. Fails flights text.now f) }
+    ensures { MatchResult result (λ v. Tells flights text.now v.items) (Fails flights text.now) }
 {
     parse_all(heap, text)
 }
 
 /// Reads a whole text and keeps nothing of it: whether it can be read, or its first line at fault.
 pub fn check(heap: Global, text: &[u8]) -> Result<(), Fault>
-    ensures { MatchResult result (λ _. (es : List Event) × Tells flights text.now es) (λ f. Fails flights text.now f) }
+    ensures { MatchResult result (λ _. (es : List Event) × Tells flights text.now es)
+        (Fails flights text.now) }
 {
     for read in Statements::<Event>::new(heap, text) {
         let _ = read?;
