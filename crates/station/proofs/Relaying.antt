@@ -6,7 +6,7 @@ use Rattle.std.proofs.lemmas.Bool.{cases_Bool, cases_lt, ltb-true, ltb-false, co
 use Rattle.frame.specs.declared.Command.{Command}
 use Rattle.frame.specs.declared.Telecommand.{Telecommand}
 use Rattle.frame.specs.File.{telecommand_of, Sendable}
-use Rattle.frame.specs.Frame.{decoded, encodable, encoded, encoding, carried, body, check_of}
+use Rattle.frame.specs.Frame.{decoded, encodable, encoded, encoding, body, check_of}
 use Rattle.frame.proofs.Back.{round_trip}
 use Rattle.satellite.specs.Story.{Inputs}
 use Rattle.flight.specs.Commanding.{heard, obeyed_in}
@@ -56,7 +56,7 @@ from_file cs (up ∷ line) s = (heard_of_file cs up (after (sent_over cs line)).
 FrameLong : List ℕ → Type 0
 FrameLong f = (length f ≡ 0) ⊎ (length f ≡ 12)
 
-twelve : (n : ℕ) (c : Command) (v : ℕ) → length (set (carried n c) 11 v) ≡ 12
+twelve : (n : ℕ) (c : Command) (v : ℕ) → length (set (body (record { number = n; command = c })) 11 v) ≡ 12
 twelve n Command.Sleep v = refl
 twelve n _ v = refl
 

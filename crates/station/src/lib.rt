@@ -1,4 +1,5 @@
-//! The ground's side: from a file of commands and the reports heard so far, which frame to send next and what is surely so.
+//! The ground's side: from a file of commands and the reports heard so far, which frame to send
+//! next and what is surely so.
 
 #![tactic(auto)]
 
@@ -39,7 +40,7 @@ impl Station {
         }
     }
 
-    /// The frame to send next: of the command that the latest report expects; none if none is left.
+    /// The frame to send next: of the command that the latest report expects; none past the last.
     pub fn next_frame(&self) -> Option<[u64; 12]>
         ensures { result ≡ frame_for self.now.commands.items (expected_of self.now.latest) }
     {
@@ -54,7 +55,8 @@ impl Station {
         encode(Telecommand { number, command })
     }
 
-    /// How many of the first commands are surely obeyed: all below the number that the latest report expects.
+    /// How many of the first commands are surely obeyed: all below the number that the latest
+    /// report expects.
     pub fn surely_obeyed(&self) -> u64
         ensures { result ≡ expected_of self.now.latest }
     {
@@ -91,8 +93,9 @@ pub fn all_obeyed()
     ensures { AllObeyed }
 {}
 
-/// There are flights over such a line: where the ground sends in each tick what it names, one over each line that is up
-/// once at least in any d ticks; so one for each file that can be sent, which obeys it all.
+/// There are flights over such a line: one over each line that is up once at least in any d ticks,
+/// where the ground sends in each tick the frame that it names; so one for each file that can be
+/// sent, which obeys it all.
 pub fn delivered_over()
     ensures over { DeliveredOver }
     ensures exists { CanDeliver }
