@@ -1,5 +1,5 @@
 -- The flight over a line that is up often enough delivers.
-use Rattle.std.proofs.Common.{◌≡◌, ℕ, zero, suc, ◌*◌, ◌<◌, ◌≤◌, Bool, true, false, cond, ltb, ◌⊎◌, inl, inr, List, [], ◌∷◌, ◌++◌, reverse, length, get_or, set, drop, replicate, Some, None, Option, sym, refl, ap, ◌∙◌, subst, ⊎_elim, arith}
+use Rattle.std.proofs.Common.{◌≡◌, ℕ, zero, suc, ◌*◌, ◌<◌, ◌≤◌, Bool, true, false, cond, ltb, ◌⊎◌, inl, inr, List, [], ◌∷◌, ◌++◌, length, get_or, set, drop, replicate, Some, None, Option, sym, refl, ap, ◌∙◌, subst, ⊎_elim, arith}
 use Rattle.std.specs.List.{AllByRecursion as All}
 use Rattle.std.proofs.lemmas.List.{get_or-replicate, get_or_past}
 use Rattle.std.proofs.lemmas.Bool.{cases_Bool, cases_lt, ltb-true, ltb-false, cond-true, cond-false}
@@ -9,12 +9,11 @@ use Rattle.frame.specs.File.{telecommand_of, Sendable}
 use Rattle.frame.specs.Frame.{decoded, encodable, encoded, encoding, body, check_of}
 use Rattle.frame.proofs.Back.{round_trip}
 use Rattle.satellite.specs.Story.{Inputs}
-use Rattle.flight.specs.Commanding.{heard, obeyed_in}
-use Rattle.flight.specs.Flight.{Lawful, machine, after}
+use Rattle.flight.specs.Flight.{machine, after}
 use Rattle.flight.specs.Machine.{AllLawful, none, more}
 use Rattle.station.specs.Line.{frame_for}
 use Rattle.station.specs.Passes.{FromFile, Names, Brings, now, before, Delivers}
-use Rattle.station.specs.Relay.{come_up, relayed, sent_over, some_up, UpIn, Delivered, DeliveredOver, CanDeliver}
+use Rattle.station.specs.Relay.{come_up, relayed, sent_over, some_up, UpIn, DeliveredOver, CanDeliver}
 use Rattle.station.proofs.Coming.{all_obeyed}
 use Rattle.station.proofs.Knowing.{tick_expected}
 

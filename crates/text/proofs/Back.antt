@@ -9,7 +9,6 @@ use Rattle.std.proofs.lemmas.Bool.{and_parts}
 use Rattle.text.specs.declared.words.Word.{Word}
 use Rattle.text.specs.declared.words.Keyword.{Keyword}
 use Rattle.text.specs.declared.cut.Stop.{Stop}
-use Rattle.text.specs.declared.cut.Stop.TheVariants.{Line, Comment, Blank}
 use Rattle.text.specs.Cut.{stops, before, cut, grown}
 use Rattle.text.specs.Number.{onward, read_digits, read_number}
 use Rattle.text.specs.Render.{rendered}
@@ -111,9 +110,9 @@ high (Word.Keyword k) l = keyword_high k
 high Word.Other l = absurd l
 
 passes_not : (s : Stop) (b : ℕ) → 48 ≤ b → stops s b ≡ false
-passes_not Line b l = ne_eqb b 10 (λ e. omega arith)
-passes_not Comment b l = ne_eqb b 35 (λ e. omega arith)
-passes_not Blank b l = ap (λ v. v || eqb b 9) (ne_eqb b 32 (λ e. omega arith)) ∙ ne_eqb b 9 (λ e. omega arith)
+passes_not Stop.Line b l = ne_eqb b 10 (λ e. omega arith)
+passes_not Stop.Comment b l = ne_eqb b 35 (λ e. omega arith)
+passes_not Stop.Blank b l = ap (λ v. v || eqb b 9) (ne_eqb b 32 (λ e. omega arith)) ∙ ne_eqb b 9 (λ e. omega arith)
 
 free_high : (s : Stop) (bs : List ℕ) → High bs → Free (stops s) bs
 free_high s [] h = tt
@@ -133,11 +132,11 @@ spaced_back : (ws : List Word) → All Writable ws → spaced (spelt ws) ≡ ws
 spaced_back [] a = refl
 spaced_back (w ∷ []) a =
     let h = high w a.0 in
-    ap (λ ps. map worded (filled ps)) (cut_free (stops Blank) (written w) (free_high Blank (written w) h.0)) ∙ ap (map worded) (filled_some (written w) [] h.1) ∙ ap (λ (v : Word). v ∷ []) (word_back w a.0)
+    ap (λ ps. map worded (filled ps)) (cut_free (stops Stop.Blank) (written w) (free_high Stop.Blank (written w) h.0)) ∙ ap (map worded) (filled_some (written w) [] h.1) ∙ ap (λ (v : Word). v ∷ []) (word_back w a.0)
 spaced_back (w ∷ v ∷ ws) a =
     let h = high w a.0 in
-    ap (λ ps. map worded (filled ps)) (cut_at (stops Blank) (written w) (spelt (v ∷ ws)) 32 (free_high Blank (written w) h.0) refl)
-    ∙ ap (map worded) (filled_some (written w) (cut (stops Blank) (spelt (v ∷ ws))) h.1) ∙ (λ i. word_back w a.0 i ∷ spaced_back (v ∷ ws) a.1 i)
+    ap (λ ps. map worded (filled ps)) (cut_at (stops Stop.Blank) (written w) (spelt (v ∷ ws)) 32 (free_high Stop.Blank (written w) h.0) refl)
+    ∙ ap (map worded) (filled_some (written w) (cut (stops Stop.Blank) (spelt (v ∷ ws))) h.1) ∙ (λ i. word_back w a.0 i ∷ spaced_back (v ∷ ws) a.1 i)
 
 free_spelt : (s : Stop) → stops s 32 ≡ false → (ws : List Word) → All Writable ws → Free (stops s) (spelt ws)
 free_spelt s e [] a = tt
@@ -145,11 +144,11 @@ free_spelt s e (w ∷ []) a = free_high s (written w) (high w a.0).0
 free_spelt s e (w ∷ v ∷ ws) a = free_append (stops s) (written w) (32 ∷ spelt (v ∷ ws)) (free_high s (written w) (high w a.0).0) (e, free_spelt s e (v ∷ ws) a.1)
 
 line_back : (ws : List Word) → All Writable ws → line_words (spelt ws) ≡ ws
-line_back ws a = ap spaced (before_free (stops Comment) (spelt ws) (free_spelt Comment refl ws a)) ∙ spaced_back ws a
+line_back ws a = ap spaced (before_free (stops Stop.Comment) (spelt ws) (free_spelt Stop.Comment refl ws a)) ∙ spaced_back ws a
 
 -- the text that is written of things says them
 pub says_back : {E : Type 0} (table : E → List Word) → ((e : E) → table e ≡ [] → ⊥) → (es : List E) → All (λ (e : E). All Writable (table e)) es → LinesSay table (lines (rendered table es)) es
 says_back table some [] a = refl
 says_back table some (e ∷ es) a =
-    ap (λ ps. spoken (map line_words ps)) (cut_at (stops Line) (spelt (table e)) (rendered table es) 10 (free_spelt Line refl (table e) a.0) refl)
+    ap (λ ps. spoken (map line_words ps)) (cut_at (stops Stop.Line) (spelt (table e)) (rendered table es) 10 (free_spelt Stop.Line refl (table e) a.0) refl)
     ∙ ap (λ l. spoken (l ∷ lines (rendered table es))) (line_back (table e) a.0) ∙ spoken_some (table e) (lines (rendered table es)) (some e) ∙ ap (λ (ls : List (List Word)). table e ∷ ls) (says_back table some es a.1)

@@ -6,10 +6,8 @@ use Rattle.std.proofs.lemmas.Bool.{and_parts, and_from, ltb-true}
 use Rattle.rules.specs.Numbers.{bit}
 use Rattle.frame.specs.declared.Command.{Command}
 use Rattle.text.specs.declared.words.Word.{Word}
-use Rattle.text.specs.declared.words.Word.TheVariants.{Number}
 use Rattle.text.specs.declared.event.Event.{Event}
 use Rattle.text.specs.declared.fault.Fault.{Fault}
-use Rattle.text.specs.declared.fault.Fault.TheVariants.{Unreadable, Memory}
 use Rattle.text.specs.Law.{command_bounded, bounded, all_below, all_said, kept_words}
 use Rattle.text.specs.Render.{rendered, Only}
 use Rattle.text.specs.Table.{command_words, event_words}
@@ -38,11 +36,11 @@ first_lawful may after h (suc n) (e ∷ es) l =
 below : (x n : ℕ) → ltb x n ≡ true → n < 2 ^ 64 + 1 → x < 2 ^ 64
 below x n l m = omega (arith, ltb-true x n l)
 
-all_writable : (n : ℕ) → n < 2 ^ 64 + 1 → (xs : List ℕ) → all_below n xs ≡ true → All Writable (map Number xs)
+all_writable : (n : ℕ) → n < 2 ^ 64 + 1 → (xs : List ℕ) → all_below n xs ≡ true → All Writable (map Word.Number xs)
 all_writable n m [] l = tt
 all_writable n m (x ∷ xs) l = let t = and_parts (ltb x n) (all_below n xs) l in (below x n t.0 m, all_writable n m xs t.1)
 
-carried : (xs : List ℕ) → all_below 4294967296 xs ≡ true → All Writable (map Number xs)
+carried : (xs : List ℕ) → all_below 4294967296 xs ≡ true → All Writable (map Word.Number xs)
 carried xs l = all_writable 4294967296 (omega arith) xs l
 
 mark_small : (b : Bool) → bit b < 2 ^ 64
@@ -70,9 +68,9 @@ event_writable Event.Tick l = (tt, tt)
 
 -- a text says one thing at most, and where it says something lawful no line of it is at fault
 module _ {E : Type 0} (l : Language E) where
-  pub told_faultless : (text : List ℕ) (es : List E) → Tells l text es → (f : Fault) → Fails l text f → f ≡ Memory
-  told_faultless text es t (Unreadable n x) q = absurd (q.0.silent _ (some_said l.words (lines text) (n + 1) es t.0) (first_lawful l.may l.heard_after false _ es t.1))
-  told_faultless text es t Memory q = refl
+  pub told_faultless : (text : List ℕ) (es : List E) → Tells l text es → (f : Fault) → Fails l text f → f ≡ Fault.Memory
+  told_faultless text es t (Fault.Unreadable n x) q = absurd (q.0.silent _ (some_said l.words (lines text) (n + 1) es t.0) (first_lawful l.may l.heard_after false _ es t.1))
+  told_faultless text es t Fault.Memory q = refl
 
   module _ (u : Readable l) where
     pub told_once : (text : List ℕ) (es fs : List E) → Tells l text es → Tells l text fs → es ≡ fs

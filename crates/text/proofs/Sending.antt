@@ -3,7 +3,6 @@ use Rattle.std.proofs.Common.{◌≡◌, ℕ, zero, suc, ◌^◌, ◌<◌, ◌�
 use Rattle.std.specs.List.{AllByRecursion as All}
 use Rattle.std.proofs.lemmas.Bool.{and_parts, le-leb, ltb-true}
 use Rattle.frame.specs.declared.Command.{Command}
-use Rattle.frame.specs.declared.Telecommand.{Telecommand}
 use Rattle.frame.specs.File.{Sendable}
 use Rattle.frame.specs.Frame.{bit, encodable}
 use Rattle.text.specs.Law.{all_below, command_bounded, all_said}

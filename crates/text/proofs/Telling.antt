@@ -3,9 +3,8 @@ use Rattle.std.proofs.Common.{◌≡◌, ℕ, ◌+◌, Bool, true, false, List, 
 use mathlib.Core.List.{map-append}
 use Rattle.std.proofs.lemmas.List.{take_at, get_or_at, length_push, map_push, same_from_push}
 use Rattle.text.specs.declared.fault.Fault.{Fault}
-use Rattle.text.specs.declared.fault.Fault.TheVariants.{Unreadable, Memory}
 use Rattle.text.specs.declared.words.Word.{Word}
-use Rattle.text.specs.declared.cut.Stop.TheVariants.{Line}
+use Rattle.text.specs.declared.cut.Stop.{Stop}
 use Rattle.text.specs.Cut.{stops, cut}
 use Rattle.text.specs.Law.{all_said, after_all}
 use Rattle.text.specs.declared.statement.Statements.{Statements}
@@ -51,7 +50,7 @@ module _ {E : Type 0} (l : Language E) where
     pub lawful : all_said l.may l.heard_after false es ≡ true
     pub hears : heard ≡ after_all l.heard_after false es
 
-  pub start : (text : List ℕ) (rest : List (List ℕ)) (line : ℕ) (heard : Bool) → rest ≡ cut (stops Line) text → line ≡ 0 → heard ≡ false → Sofar text rest line heard []
+  pub start : (text : List ℕ) (rest : List (List ℕ)) (line : ℕ) (heard : Bool) → rest ≡ cut (stops Stop.Line) text → line ≡ 0 → heard ≡ false → Sofar text rest line heard []
   start text rest line heard c n h = record { done = []; cutting = ap (map line_words) (sym c); long = sym n; says = refl; lawful = refl; hears = h }
 
   module _ {text : List ℕ} {rest : List (List ℕ)} {line : ℕ} {heard : Bool} {es : List E} (s : Sofar text rest line heard es) where
@@ -97,9 +96,9 @@ module _ {E : Type 0} (l : Language E) where
       here = ap (λ (ls : List (List Word)). get_or ls line []) (s.cutting ∙ ap (λ (r : List (List ℕ)). s.done ++ map line_words r) e) ∙ get_or_at s.done (line_words bs) _ [] line s.long
 
       pub next_fails : Readable l → (f : Fault) → ReadsAt l line heard bs (Err f) → Fails l text f
-      next_fails u (Unreadable m x) r =
-          subst (λ k. Fails l text (Unreadable k x)) (sym r.0) (stopped u r.1.0 r.1.1.0, subst (λ ws. l.Expects ws x) (sym here) r.1.1.1)
-      next_fails u Memory r = tt
+      next_fails u (Fault.Unreadable m x) r =
+          subst (λ k. Fails l text (Fault.Unreadable k x)) (sym r.0) (stopped u r.1.0 r.1.1.0, subst (λ ws. l.Expects ws x) (sym here) r.1.1.1)
+      next_fails u Fault.Memory r = tt
 
 -- the same of an iterator over the lines
 module _ {E : Type 0} (l : Language E) (u : Readable l) (text : List ℕ) where

@@ -5,7 +5,6 @@ use Rattle.std.proofs.lemmas.Bool.{false≢true}
 use Rattle.rules.specs.Numbers.{bit}
 use Rattle.frame.specs.declared.Command.{Command}
 use Rattle.text.specs.declared.words.Word.{Word}
-use Rattle.text.specs.declared.words.Word.TheVariants.{Number, Other}
 use Rattle.text.specs.declared.words.Keyword.{Keyword}
 use Rattle.text.specs.declared.event.Event.{Event}
 use Rattle.text.specs.Table.{command_words, event_words, amount, Found, Finds}
@@ -18,7 +17,7 @@ pub num : Word → ℕ
 num w = or_zero (amount w)
 
 nth : List Word → ℕ → ℕ
-nth ws i = num (get_or ws i Other)
+nth ws i = num (get_or ws i Word.Other)
 
 command_named : Word → List Word → Command
 command_named (Word.Keyword Keyword.Put) ws = Command.Put (nth ws 1) (nth ws 2)
@@ -30,7 +29,7 @@ command_named (Word.Keyword Keyword.Rule) ws = Command.SetRule (nth ws 1) (recor
 command_named _ ws = Command.Unknown (nth ws 1)
 
 pub command_back : List Word → Command
-command_back ws = command_named (get_or ws 0 Other) ws
+command_back ws = command_named (get_or ws 0 Word.Other) ws
 
 mark_back : (b : Bool) → eqb (bit b) 1 ≡ b
 mark_back true = refl
@@ -49,9 +48,9 @@ event_named (Word.Keyword Keyword.Hit) ws = Event.Hit (nth ws 1) (nth ws 2) (nth
 event_named _ ws = Event.Tick
 
 pub event_back : List Word → Event
-event_back ws = event_named (get_or ws 0 Other) ws
+event_back ws = event_named (get_or ws 0 Word.Other) ws
 
-pub all_num : (xs : List ℕ) → map num (map Number xs) ≡ xs
+pub all_num : (xs : List ℕ) → map num (map Word.Number xs) ≡ xs
 unfolding num or_zero
 all_num [] = refl
 all_num (x ∷ xs) = ap (λ (l : List ℕ). x ∷ l) (all_num xs)

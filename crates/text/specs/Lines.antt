@@ -2,8 +2,7 @@
 use Rattle.std.specs.Prelude.{◌≡◌, ℕ, ◌+◌, ◌^◌, ◌<◌, Bool, List, [], ◌∷◌, length, Some, None, Option, Ok, Err, Result}
 use Rattle.std.specs.Iterator.Adapters.{enumerate_source, enumerate_count}
 use Rattle.text.specs.declared.fault.Fault.{Fault}
-use Rattle.text.specs.declared.fault.Fault.TheVariants.{Unreadable, Memory}
-use Rattle.text.specs.declared.fault.Unread.TheVariants as unread
+use Rattle.text.specs.declared.fault.Unread.{Unread}
 use Rattle.text.specs.declared.statement.Statements.{Statements}
 use Rattle.text.specs.Cut.{left}
 use Rattle.text.specs.Text.{Language, Reads}
@@ -24,9 +23,9 @@ module _ {E : Type 0} where
     -- what a line says, or the fault at its number
     abbrev pub ReadsAt : ℕ → Bool → List ℕ → Result (Option E) Fault → Type 0
     ReadsAt n heard bs (Ok o) = Reads l heard (line_words bs) (Ok o)
-    ReadsAt n heard bs (Err (Unreadable m x)) =
-        (m ≡ n) × Reads l heard (line_words bs) (Err (unread.Expected x))
-    ReadsAt n heard bs (Err Memory) = Unit {0}
+    ReadsAt n heard bs (Err (Fault.Unreadable m x)) =
+        (m ≡ n) × Reads l heard (line_words bs) (Err (Unread.Expected x))
+    ReadsAt n heard bs (Err Fault.Memory) = Unit {0}
 
     -- what it leaves for the next line
     abbrev pub left_by : {X : Type 0} → Bool → Result (Option E) X → Bool

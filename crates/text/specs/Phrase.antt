@@ -3,10 +3,9 @@ use Rattle.std.specs.Prelude.{ℕ, ◌+◌, ◌-◌, ◌^◌, min, cond, List, [
 use Rattle.std.specs.Str.{is_utf8}
 use Rattle.refusal.specs.declared.Refusal.{Refusal}
 use Rattle.refusal.specs.Turned.{turned, turned_text}
-use Rattle.text.specs.declared.cut.Stop.TheVariants.{Line}
+use Rattle.text.specs.declared.cut.Stop.{Stop}
 use Rattle.text.specs.declared.fault.Expected.{Expected}
 use Rattle.text.specs.declared.fault.Fault.{Fault}
-use Rattle.text.specs.declared.fault.Fault.TheVariants.{Unreadable, Memory}
 use Rattle.text.specs.declared.misread.Misread.{Misread}
 use Rattle.text.specs.Cut.{stops, cut}
 use Rattle.text.specs.Law.{kept_words}
@@ -40,8 +39,8 @@ number_from_1 n = min (n + 1) (2 ^ 64 - 1)
 
 -- a line at fault is refused by its number; want of memory is no refusal
 abbrev pub refusal_of : Fault → Option Refusal
-refusal_of (Unreadable n x) = Some (Refusal.Unreadable n)
-refusal_of Memory = None
+refusal_of (Fault.Unreadable n x) = Some (Refusal.Unreadable n)
+refusal_of Fault.Memory = None
 
 -- the line that programs know
 abbrev pub for_programs : Option Refusal → List ℕ
@@ -55,10 +54,10 @@ explained program of m x y =
     ++ (of ++ (codes ": expected " ++ (x ++ (codes "; found " ++ y))))))
 
 abbrev pub for_people : (program of text : List ℕ) → Fault → List ℕ
-for_people program of text (Unreadable n x) =
+for_people program of text (Fault.Unreadable n x) =
     explained program of (number_from_1 n) (phrase x)
-    (shown (slice_index_or (cut (stops Line) text) n []))
-for_people program of text Memory = program ++ codes ": no memory left"
+    (shown (slice_index_or (cut (stops Stop.Line) text) n []))
+for_people program of text Fault.Memory = program ++ codes ": no memory left"
 
 abbrev pub misread_text : Misread → List ℕ
 misread_text m =

@@ -2,7 +2,6 @@
 use Rattle.std.specs.Prelude.{◌≡◌, ℕ, List, [], ◌∷◌, ◌++◌, decimal}
 use Rattle.text.specs.declared.words.Word.{Word}
 use Rattle.text.specs.declared.fault.Fault.{Fault}
-use Rattle.text.specs.declared.fault.Fault.TheVariants.{Memory}
 use Rattle.text.specs.Text.{Language, Tells, Fails}
 use Rattle.text.specs.Words.{spelt}
 
@@ -20,4 +19,4 @@ rendered table (e ∷ es) = spelt (table e) ++ (10 ∷ rendered table es)
 pub record Only {E : Type 0} (l : Language E) (text : List ℕ) (es : List E) : Type 0 where
   pub told : Tells l text es
   pub once : (fs : List E) → Tells l text fs → fs ≡ es
-  pub faultless : (f : Fault) → Fails l text f → f ≡ Memory
+  pub faultless : (f : Fault) → Fails l text f → f ≡ Fault.Memory

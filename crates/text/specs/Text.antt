@@ -7,11 +7,9 @@ use Rattle.text.specs.declared.words.Keyword.{Keyword}
 use Rattle.text.specs.declared.event.Event.{Event}
 use Rattle.text.specs.declared.fault.Expected.{Expected}
 use Rattle.text.specs.declared.fault.Fault.{Fault}
-use Rattle.text.specs.declared.fault.Fault.TheVariants.{Unreadable, Memory}
 use Rattle.text.specs.declared.fault.Unread.{Unread}
-use Rattle.text.specs.declared.fault.Unread.TheVariants as unread
 use Rattle.text.specs.Words.{lines, Writable}
-use Rattle.text.specs.Table.{command_words, event_words, Finds}
+use Rattle.text.specs.Table.{command_words, event_words}
 use Rattle.text.specs.Law.{bounded, allowed, heard_after, command_bounded, all_said}
 
 -- the lines that have words
@@ -92,8 +90,8 @@ module _ {E : Type 0} (l : Language E) where
   abbrev pub Reads : Bool → List Word → Result (Option E) Unread → Type 0
   Reads heard ws (Ok None) = ws ≡ []
   Reads heard ws (Ok (Some e)) = IsSaid heard ws e
-  Reads heard ws (Err (unread.Expected x)) = (ws ≢ []) × Unsaid heard ws x
-  Reads heard ws (Err unread.Memory) = Unit {0}
+  Reads heard ws (Err (Unread.Expected x)) = (ws ≢ []) × Unsaid heard ws x
+  Reads heard ws (Err Unread.Memory) = Unit {0}
 
   -- each may be said after the ones before it, from the start of a text
   abbrev pub IsLawful : List E → Type 0
@@ -111,10 +109,10 @@ module _ {E : Type 0} (l : Language E) where
 
   -- its first line at fault
   abbrev pub Fails : List ℕ → Fault → Type 0
-  Fails text (Unreadable n x) =
+  Fails text (Fault.Unreadable n x) =
       FirstFault (lines text) n × l.Expects (slice_index_or (lines text) n []) x
-  Fails text Memory = Unit {0}
+  Fails text Fault.Memory = Unit {0}
 
 abbrev pub fault_at : ℕ → Unread → Fault
-fault_at n (unread.Expected x) = Unreadable n x
-fault_at n unread.Memory = Memory
+fault_at n (Unread.Expected x) = Fault.Unreadable n x
+fault_at n Unread.Memory = Fault.Memory

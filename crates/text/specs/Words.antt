@@ -3,7 +3,7 @@ use Rattle.std.specs.Prelude.{ℕ, ◌^◌, ◌<◌, cond, List, [], ◌∷◌, 
 use Rattle.std.specs.Str.{bytes_eq}
 use Rattle.text.specs.declared.words.Word.{Word}
 use Rattle.text.specs.declared.words.Keyword.{Keyword}
-use Rattle.text.specs.declared.cut.Stop.TheVariants.{Line, Comment, Blank}
+use Rattle.text.specs.declared.cut.Stop.{Stop}
 use Rattle.text.specs.Cut.{stops, before, cut}
 use Rattle.text.specs.Number.{read_number}
 
@@ -51,14 +51,14 @@ filled ws = filter (λ w. not (length w == 0)) ws
 
 -- the words between blanks
 abbrev pub spaced : List ℕ → List Word
-spaced bs = map worded (filled (cut (stops Blank) bs))
+spaced bs = map worded (filled (cut (stops Stop.Blank) bs))
 
 -- what comes before the comment
 abbrev pub line_words : List ℕ → List Word
-line_words bs = spaced (before (stops Comment) bs)
+line_words bs = spaced (before (stops Stop.Comment) bs)
 
 abbrev pub lines : List ℕ → List (List Word)
-lines bs = map line_words (cut (stops Line) bs)
+lines bs = map line_words (cut (stops Stop.Line) bs)
 
 abbrev pub written : Word → List ℕ
 written (Word.Number n) = decimal n

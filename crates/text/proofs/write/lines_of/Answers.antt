@@ -1,7 +1,6 @@
 use Rattle.std.proofs.Common.{◌≡◌, ℕ, List, string_bytes, sym, subst, arith}
 use Rattle.std.proofs.lemmas.Grind.{common_steps}
 use Rattle.text.specs.Render.{rendered, Only}
-use Rattle.text.specs.Text.{Tells, Fails}
 use Rattle.text.proofs.Once.{read_back}
 use Rattle.text.proofs.write.lines_of.Goals as goal
 

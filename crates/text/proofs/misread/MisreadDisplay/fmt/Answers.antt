@@ -1,4 +1,4 @@
-use Rattle.std.proofs.Common.{ℕ, List, ◌++◌, sym, ap, ◌∙◌}
+use Rattle.std.proofs.Common.{◌++◌, sym, ap, ◌∙◌}
 use Rattle.text.specs.Phrase.{phrase, shown, for_programs, explained, for_people}
 use Rattle.text.proofs.Writing.{ok_is, put_more, put_is}
 use Rattle.text.proofs.misread.MisreadDisplay.fmt.Goals as goal
