@@ -1,7 +1,7 @@
 -- Histories of readings and frames of then exist.
-use Rattle.std.proofs.Common.{◌≡◌, ℕ, zero, suc, List, [], ◌∷◌, length, replicate, refl, ap, inl}
+use Rattle.std.proofs.Common.{zero, suc, [], ◌∷◌, replicate, refl, ap, inl}
 use Rattle.origin.specs.Entry.{Input, Lent}
-use Rattle.bridge.specs.Same.{OfThen, AllThen, none_then, more_then, ThenHappens}
+use Rattle.bridge.specs.Same.{none_then, more_then, ThenHappens}
 
 -- a tick in which no instrument reads anything and nothing comes up
 abbrev quiet : Input

@@ -13,7 +13,7 @@ use Rattle.satellite.specs.Story.{Inputs, begun, looked, watched_one, watched, c
 use Rattle.satellite.proofs.Watching.{watched_rules}
 use Rattle.flight.specs.Flight.{Lawful, after}
 use Rattle.flight.specs.Commanding.{heard, Turn}
-use Rattle.flight.specs.Effects.{Place, CommandsAct, Undoable, put_low, put_high, later_low, later_high, later_past, later_full, rule_none, rule_blind, rule_low, rule_high, no_kind, ElseIgnored, ReadsRight, KeepsSizes, TimeRight, turned_down, rejections, RejectedRight, LaunchesRight}
+use Rattle.flight.specs.Effects.{PutPlace, CommandsAct, Undoable, put_low, put_high, later_low, later_high, later_past, later_full, rule_none, rule_blind, rule_low, rule_high, no_kind, ElseIgnored, ReadsRight, KeepsSizes, TimeRight, turned_down, rejections, RejectedRight, LaunchesRight}
 use Rattle.flight.proofs.Steps.{obeyed_cases, ticked_cases, ticked_heard, one_cases, watched_zero, watched_suc, begun_low, release_is, reception}
 use Rattle.flight.proofs.Waits.{parts, among_due, put_other}
 use Rattle.flight.proofs.Sound.{may_place, RuleOk, RulesSound, Sound, after_sound, after_sized}
@@ -61,7 +61,7 @@ not_done i is c e cannot =
     ∙ obeyed_cases t r (λ u. u ≡ with_expected (suc (after is).expected) (rejecting r)) (λ _ f. absurd (true≢false (sym f ∙ cannot)))
     (λ _ _. ap (λ n. with_expected (suc n) (rejecting r)) k) (λ f. absurd (f (sym k)))
 
-can_set : (k : ℕ) (r : Rule) → k < 16 → r.watches ≤ 63 → (r.safes ≡ true) ⊎ Place r.place → (ltb k 16 && may_set r) ≡ true
+can_set : (k : ℕ) (r : Rule) → k < 16 → r.watches ≤ 63 → (r.safes ≡ true) ⊎ PutPlace r.place → (ltb k 16 && may_set r) ≡ true
 can_set k r l w o =
     and_from (ltb k 16) (may_set r) (lt-ltb k 16 l) (and_from (leb r.watches 63) (r.safes || may_put r.place) (le-leb r.watches 63 w)
     (⊎_elim (or_left r.safes (may_put r.place)) (λ p. or_right r.safes (may_put r.place) (place_may r.place p)) o))

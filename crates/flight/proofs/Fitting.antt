@@ -15,7 +15,7 @@ use Rattle.layout.proofs.Places.{head_word, waiting_word, activity_word, rule_wo
 use Rattle.layout.proofs.Sanity.{faultless_of}
 use Rattle.layout.proofs.Tidiness.{tidy_right}
 use Rattle.flight.specs.Flight.{keeper, machine, after, NeverRefused}
-use Rattle.flight.specs.Effects.{Place}
+use Rattle.flight.specs.Effects.{PutPlace}
 use Rattle.flight.specs.Scheduling.{Among, here, there}
 use Rattle.flight.proofs.Waits.{among_at}
 use Rattle.layout.proofs.Joined.{all_words, each_flat, each_nought, each_behind}
@@ -24,7 +24,7 @@ use Rattle.flight.proofs.Received.{Small, SmallRule, SmallActivity}
 use Rattle.flight.proofs.Bounds.{Bounded, after_bounded}
 use Rattle.flight.proofs.Flying.{all_lawful, keeps, flies_right}
 
-pub place_may : (a : ℕ) → Place a → may_put a ≡ true
+pub place_may : (a : ℕ) → PutPlace a → may_put a ≡ true
 place_may a p = and_from (leb 16 a) (leb a 63) (le-leb 16 a p.0) (le-leb a 63 p.1)
 
 bit_small : (b : Bool) → Small (bit b)

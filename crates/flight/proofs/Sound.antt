@@ -14,22 +14,22 @@ use Rattle.satellite.specs.Story.{Inputs, begun, looked, watched_one, watched, c
 use Rattle.layout.specs.Map.{Sized}
 use Rattle.flight.specs.Machine.{AllLawful, more}
 use Rattle.flight.specs.Flight.{Lawful, machine, after}
-use Rattle.flight.specs.Effects.{Place}
+use Rattle.flight.specs.Effects.{PutPlace}
 use Rattle.flight.specs.Scheduling.{Among}
 use Rattle.flight.proofs.Steps.{obeyed_cases, ticked_cases, one_cases, watched_zero, watched_suc, release_is, reception}
 use Rattle.flight.proofs.Waits.{among_append, parts, among_still, parts_length, put_length}
 
-pub may_place : (i : ℕ) → may_put i ≡ true → Place i
+pub may_place : (i : ℕ) → may_put i ≡ true → PutPlace i
 may_place i e = let p = and_parts (leb 16 i) (leb i 63) e in (leb-true 16 i p.0, leb-true i 63 p.1)
 
 pub record RuleOk (r : Rule) : Type 0 where
   pub watches : r.watches ≤ 63
-  pub puts : (r.needs ≡ 0) ⊎ ((r.safes ≡ true) ⊎ Place r.place)
+  pub puts : (r.needs ≡ 0) ⊎ ((r.safes ≡ true) ⊎ PutPlace r.place)
 
 -- of activities at a time; of rules; how long lists are
 pub record WaitsSound (t : ℕ) (xs : List Activity) : Type 0 where
   pub later : (a : Activity) → Among a xs → t < a.release
-  pub places : (a : Activity) → Among a xs → Place a.place
+  pub places : (a : Activity) → Among a xs → PutPlace a.place
   pub few : length xs ≤ 32
 
 abbrev pub RulesSound : List Rule → Type 0
@@ -108,10 +108,10 @@ rule_ok r e =
     let p = and_parts (leb r.watches 63) (r.safes || may_put r.place) e in
     record { watches = leb-true r.watches 63 p.0; puts = inr (⊎_elim inl (λ d. inr (may_place r.place d)) (or_cases r.safes (may_put r.place) p.1)) }
 
-later_sound : (t : ℕ) (xs : List Activity) (x : Activity) → t < x.release → Place x.place → length xs < 32 → WaitsSound t xs → WaitsSound t (xs ++ (x ∷ []))
+later_sound : (t : ℕ) (xs : List Activity) (x : Activity) → t < x.release → PutPlace x.place → length xs < 32 → WaitsSound t xs → WaitsSound t (xs ++ (x ∷ []))
 later_sound t xs x l p n h = record {
   later = λ a m. ⊎_elim (h.later a) (λ d. subst (λ (y : Activity). t < y.release) (sym d) l) (among_append a x xs m);
-  places = λ a m. ⊎_elim (h.places a) (λ d. subst (λ (y : Activity). Place y.place) (sym d) p) (among_append a x xs m);
+  places = λ a m. ⊎_elim (h.places a) (λ d. subst (λ (y : Activity). PutPlace y.place) (sym d) p) (among_append a x xs m);
   few = rw (length-append xs (x ∷ [])) (omega arith);
 }
 

@@ -61,7 +61,6 @@ pub fn decode(frame: &[u64; LENGTH]) -> Option<Telecommand>
 
 /// The frame of a telecommand; nothing where a number of it is 2^32 or more, or where an
 /// unknown command has the kind of a known one.
-#[tactic(auto, using(crate::proofs::Back::round_trip, crate::proofs::Back::encoding_some, crate::proofs::Back::encoding_large, crate::proofs::Back::encoding_other))]
 pub fn encode(telecommand: Telecommand) -> Option<[u64; LENGTH]>
     ensures value { result ≡ encoding telecommand }
     ensures back { encodable telecommand ≡ true → decoded (encoded telecommand) ≡ Some telecommand }

@@ -35,10 +35,13 @@ counted k s = with_counts (slice_set s.counts k (looked k s)) s
 
 -- what a rule does when it acts
 abbrev pub acted : Rule → State → State
-acted r s = cond r.safes (with_safe_mode true s) (with_parameters (slice_set s.parameters r.place r.number) s)
+acted r s =
+    cond r.safes (with_safe_mode true s)
+    (with_parameters (slice_set s.parameters r.place r.number) s)
 
 abbrev pub watched_one : ℕ → State → State
-watched_one k s = cond (acts (rule s k) (looked k s)) (acted (rule s k) (counted k s)) (counted k s)
+watched_one k s =
+    cond (acts (rule s k) (looked k s)) (acted (rule s k) (counted k s)) (counted k s)
 
 -- the first n rules are looked at, each after what the ones before it did
 unfoldable pub watched : ℕ → State → State
@@ -49,7 +52,8 @@ watched (suc k) s = watched_one k (watched k s)
 abbrev pub fate_in : State → Activity → Fate
 fate_in s a = fate_of a s.time s.safe_mode
 
--- activities whose time it is put their numbers in their order, or in safe mode are counted as missed; either way they are gone
+-- activities whose time it is put their numbers in their order, or in safe mode are counted as
+-- missed; either way they are gone
 abbrev pub released : State → State
 released s =
     with_schedule (fated is_waiting (fate_in s) s.schedule)
@@ -105,9 +109,13 @@ rejecting s = with_rejected (suc s.rejected) s
 abbrev pub expecting_next : State → State
 expecting_next s = with_expected (suc s.expected) s
 
--- the expected command is done, or counted as rejected, and then the next one is expected; any other is as if it had not come
+-- the expected command is done, or counted as rejected, and then the next one is expected; any
+-- other is as if it had not come
 abbrev pub obeyed : Telecommand → State → State
-obeyed t s = cond (t.number == s.expected) (expecting_next (cond (can s t.command) (done s t.command) (rejecting s))) s
+obeyed t s =
+    cond (t.number == s.expected)
+    (expecting_next (cond (can s t.command) (done s t.command) (rejecting s)))
+    s
 
 -- what is received of the inputs, in the state in which it comes up: nothing, or a telecommand
 abbrev pub received : Inputs → State → Option Telecommand
