@@ -9,7 +9,7 @@ ghost use Rattle.satellite.specs.Model.{model};
 mod commands;
 
 use crate::state::Satellite;
-use frame::{LENGTH, decode};
+use frame::decode;
 use parameters::Parameters;
 use rules::{COUNT, Monitor, Rule, Rules};
 use schedule::Schedule;
@@ -33,7 +33,7 @@ impl Satellite {
 
     /// One tick: time and readings, rules, activities that are due, and then the command of the
     /// frame that came up, if one did and it is whole.
-    pub fn tick(self, readings: &[u16; 16], frame: Option<&[u64; LENGTH]>) -> Satellite
+    pub fn tick(self, readings: &[u16; 16], frame: Option<&[u64; frame::LENGTH]>) -> Satellite
         requires { Fit (model self) }
         ensures { model result ≡
             ticked (record { readings = readings.now; frame = came_up frame.entry }) (model self) }
@@ -127,7 +127,7 @@ impl Satellite {
     }
 
     // The command of the frame that came up is obeyed, if the frame is whole.
-    fn hear(mut self, frame: Option<&[u64; LENGTH]>) -> Satellite
+    fn hear(mut self, frame: Option<&[u64; frame::LENGTH]>) -> Satellite
         requires low_expected { self.expected ≤ most }
         requires low_rejected { self.rejected ≤ most }
         ensures { model result ≡ heeded (decoded (came_up frame.entry)) (model self) }
@@ -137,7 +137,7 @@ impl Satellite {
     }
 
     #[inline(never)]
-    fn receive(&mut self, frame: Option<&[u64; LENGTH]>)
+    fn receive(&mut self, frame: Option<&[u64; frame::LENGTH]>)
         requires low_expected { self.old.expected ≤ most }
         requires low_rejected { self.old.rejected ≤ most }
         ensures { model self.new ≡ heeded (decoded (came_up frame.entry)) (model self.old) }
