@@ -1,7 +1,7 @@
 -- The one number that a call answers, and what it says of the memory and the report.
 use Rattle.std.specs.Prelude.{◌≡◌, ℕ, ◌+◌, ◌*◌, List, Some, None, Option, Result}
 use Rattle.refusal.specs.declared.Refusal.{Refusal}
-use Rattle.refusal.specs.Turned.{Turned, turned}
+use Rattle.refusal.specs.Turned.{Turned}
 use Rattle.onboard.specs.Entry.{answered, Says, KeepsState, GoesOn, Launches}
 
 -- 0 says that it is done; else the number of the refusal times 2^32, and its place

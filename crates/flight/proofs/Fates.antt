@@ -1,4 +1,4 @@
--- What becomes in a tick of each activity that waits, and that of those for one place in one tick there is a last.
+-- What becomes in a tick of each activity that waits; and which of them is the last for its place.
 use Rattle.std.proofs.Common.{◌≡◌, ℕ, suc, ◌⊎◌, List, [], ◌∷◌, sym, refl, ap, ◌∙◌, subst, inl, inr, ⊎_elim, arith}
 use Rattle.std.proofs.lemmas.Bool.{cases_eq}
 use Rattle.schedule.specs.declared.activity.Activity.{Activity}

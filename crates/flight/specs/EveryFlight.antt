@@ -30,7 +30,8 @@ pub record EveryFlight (i : Inputs) (is : List Inputs) (left : List ℕ) : Type 
       × ((after (i ∷ is)).expected ≡ suc (after is).expected)
   -- and takes effect, if it can be done
   pub takes_effect : (c : Command) → Turn i is c → can (at_reception i (after is)) c ≡ true
-      → after (i ∷ is) ≡ with_expected (suc (after is).expected) (done (at_reception i (after is)) c)
+      → after (i ∷ is) ≡
+      with_expected (suc (after is).expected) (done (at_reception i (after is)) c)
   -- safe mode is had in the tick in which it is commanded
   pub safe_at_once : Turn i is Command.Sleep → (after (i ∷ is)).safe_mode ≡ true
   -- had before or by a rule, it lasts until `Wake` has its turn

@@ -1,7 +1,7 @@
 -- Flights of the satellite.
 use Rattle.std.specs.Prelude.{◌≡◌, ℕ, ◌<◌, ◌≤◌, ◌⊎◌, List, ◌∷◌, length, slice_index}
 use Rattle.memory.specs.Keeper.{Keeper}
-use Rattle.memory.specs.Threefold as memory
+use Rattle.memory.specs.Kept as memory
 use Rattle.satellite.specs.State.{State, at_launch}
 use Rattle.satellite.specs.Story.{Inputs, at_reception}
 use Rattle.satellite.specs.Story as satellite

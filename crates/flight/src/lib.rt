@@ -89,7 +89,7 @@ pub fn parts_in_tick()
     ensures { PartsInTick }
 {}
 
-/// What waits stays until its tick or until all is forgotten, then it is gone, and only `Later` adds one.
+/// What waits stays until its tick, unless all is forgotten; then it is gone; and only `Later` adds one.
 pub fn each_activity()
     ensures { EachActivity }
 {}
@@ -169,17 +169,17 @@ pub fn safe_lasts()
     ensures { SafeLasts }
 {}
 
-/// What each rule sees: the number of the last rule before it that acts for the place.
+/// At each look the last rule before it that acts for a place has put its number there.
 pub fn rules_put()
     ensures { RulesPut }
 {}
 
-/// Else what the tick before left there.
+/// At each look a place for which none acts, and that is no instrument's, is as the tick before left it.
 pub fn else_untouched()
     ensures { ElseUntouched }
 {}
 
-/// Or what was read, at an instrument's place; and the last look is the release's.
+/// At each look the instruments' places hold what was read, and after the last activities are released.
 pub fn looks_right()
     ensures { LooksRight }
 {}

@@ -4,7 +4,8 @@ use Rattle.std.proofs.lemmas.List.FromFn.{fill_by_all, length-map-range_with_len
 use Rattle.std.proofs.lemmas.List.{get_or_append_left, get_or-append_right, get_or-set_other, length-set}
 use Rattle.std.proofs.lemmas.Bool.{cases_eq, eq-eqb, cond_both, eqb-true}
 use Rattle.memory.specs.Keeper.{Mends}
-use Rattle.memory.specs.Threefold.{copy, majority, voted, voted_words, thrice, Holds, Spared, Upset, keeper, KeepsWords, UpsetsHappen}
+use Rattle.memory.specs.Threefold.{copy, majority, voted, voted_words, thrice, Holds, Spared, Upset, threefold, UpsetsHappen}
+use Rattle.memory.specs.Kept.{KeepsWords}
 
 pub voted_at : (n k : ℕ) (m : List ℕ) → majority (get_or m k 0) (get_or m (n + k) 0) (get_or m (2 * n + k) 0) ≡ voted n m k
 unfolding voted
@@ -59,7 +60,7 @@ voted_back n m h ws holds upset k lt =
     (⊎_elim (λ (p : Spared n m h 0 k × Spared n m h 2 k). inr (inl (p.0 ∙ z, p.1 ∙ t))) (λ (p : Spared n m h 0 k × Spared n m h 1 k). inr (inr (p.0 ∙ z, p.1 ∙ o))))
     (upset.two k lt))
 
-mends : (n : ℕ) → Mends (keeper n)
+mends : (n : ℕ) → Mends (threefold n)
 unfolding voted_words
 mends n kept found words holds upset = sym (fill_by_all (voted n found) words n 0 holds.0 (λ k lt. sym (voted_back n kept found words holds upset k lt)))
 

@@ -1,7 +1,7 @@
 -- Words kept three times, copy after copy: n words are 3 * n numbers, and copy c of word k is number c * n + k.
 use Rattle.std.specs.Prelude.{◌≡◌, ℕ, ◌+◌, ◌*◌, ◌<◌, cond, ◌⊎◌, List, ◌++◌, map, length, ◌==◌, slice_index, slice_set}
 use Rattle.std.specs.List.{range_with_len}
-use Rattle.memory.specs.Keeper.{Keeper, Keeps}
+use Rattle.memory.specs.Keeper.{Keeper}
 
 abbrev pub copy : ℕ → List ℕ → ℕ → ℕ → ℕ
 copy n m c k = slice_index m (c * n + k)
@@ -37,19 +37,15 @@ pub record Upset (n : ℕ) (m h : List ℕ) : Type 0 where
   pub long : length h ≡ length m
   pub two : (k : ℕ) → k < n → (Spared n m h 1 k × Spared n m h 2 k) ⊎ ((Spared n m h 0 k × Spared n m h 2 k) ⊎ (Spared n m h 0 k × Spared n m h 1 k))
 
--- how n words are kept: three times. What is above memory names this keeper alone.
-abbrev pub keeper : ℕ → Keeper
-keeper n = record {
+-- n words kept three times
+abbrev pub threefold : ℕ → Keeper
+threefold n = record {
   size = size n;
   read = voted_words n;
   stored = thrice;
   Holds = Holds n;
   Upset = Upset n;
 }
-
--- an upset in one copy of each word at most is voted away, and what was written is kept
-abbrev pub KeepsWords : Type 0
-KeepsWords = (n : ℕ) → Keeps n (keeper n)
 
 -- upsets do happen: none at all is one, and so is any number in any one copy of a word that had been spared so far
 pub record UpsetsHappen : Type 0 where

@@ -3,7 +3,8 @@
 #![tactic(auto)]
 
 ghost use Rattle.std.specs.Prelude.{◌≡◌, ◌<◌, length, take};
-ghost use Rattle.memory.specs.Threefold.{majority, voted, voted_words, thrice, size, KeepsWords, UpsetsHappen};
+ghost use Rattle.memory.specs.Threefold.{majority, voted, voted_words, thrice, size, UpsetsHappen};
+ghost use Rattle.memory.specs.Kept.{KeepsWords};
 
 /// How many numbers of memory a word takes.
 pub const PER_WORD: usize = 3;

@@ -84,7 +84,7 @@ small_reason (Some Lent.Report) b ws x h e = grind arith
 small_reason None (Some k) ws x h e = grind (arith, h.0)
 small_reason None None ws x h e = cc
 
-pub small_place : (d : Result (Unit {0}) Refusal) (m r f t m₁ t₁ : List ℕ) → Says d m r f t m₁ t₁ → IfErr d (λ e. (turned e).place < word_count)
+small_place : (d : Result (Unit {0}) Refusal) (m r f t m₁ t₁ : List ℕ) → Says d m r f t m₁ t₁ → IfErr d (λ e. (turned e).place < word_count)
 unfolding turned_away
 small_place (Ok u) m r f t m₁ t₁ h = tt
 small_place (Err e) m r f t m₁ t₁ h =
@@ -132,10 +132,10 @@ goes_on d m r f t m₁ t₁ small says is kept flown upset short lr lf lt =
 
 -- so all clauses of the entry follow from the first
 pub entered : (d : Result (Unit {0}) Refusal) (m r f t m₁ t₁ : List ℕ) → ((k : ℕ) → Fits w16 (get_or r k 0)) → Says d m r f t m₁ t₁
-    → record { says : Says d m r f t m₁ t₁; keeps : KeepsState d m r f m₁; flies : GoesOn d m r f t m₁ t₁ }
+    → record { says : Says d m r f t m₁ t₁; place : IfErr d (λ e. (turned e).place < word_count); keeps : KeepsState d m r f m₁; flies : GoesOn d m r f t m₁ t₁ }
 entered d m r f t m₁ t₁ small says =
     let most : (k : ℕ) → get_or r k 0 ≤ 65535 = λ k. let h = small k in omega arith in
-    record { says = says; keeps = keeps_state d m r f t m₁ t₁ most says; flies = goes_on d m r f t m₁ t₁ most says }
+    record { says = says; place = small_place d m r f t m₁ t₁ says; keeps = keeps_state d m r f t m₁ t₁ most says; flies = goes_on d m r f t m₁ t₁ most says }
 
 -- the steps of the entry, one after the other
 pub ticked_says : (m r f t m₁ t₁ ws : List ℕ) (s : State) → wrong_length (length m) (length r) (length f) (length t) ≡ None → ws ≡ keeper.read m → None ≡ lowest_fault ws

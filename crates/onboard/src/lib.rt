@@ -2,12 +2,13 @@
 
 #![tactic(auto)]
 
-ghost use Rattle.std.specs.Prelude.{◌≡◌, ◌≤◌, length, slice_index, Some, None, option_map, MatchResult};
+ghost use Rattle.std.specs.Prelude.{◌≡◌, ◌<◌, ◌≤◌, length, slice_index, Some, None, option_map, MatchResult, IfErr};
 ghost use Rattle.refusal.specs.declared.Refusal.TheVariants.{Length};
+ghost use Rattle.refusal.specs.Turned.{turned};
 ghost use Rattle.satellite.specs.Fit.{Fit};
 ghost use Rattle.satellite.specs.Model.{model};
 ghost use Rattle.satellite.specs.Story.{came_up};
-ghost use Rattle.layout.specs.Map.{words_of, state_of, waiting_at};
+ghost use Rattle.layout.specs.Map.{words_of, state_of, waiting_at, word_count};
 ghost use Rattle.telemetry.specs.Reports.{report_of, numbers_of};
 ghost use Rattle.flight.specs.Flight.{keeper};
 ghost use Rattle.onboard.specs.Entry.{wrong_length, tick_of_words, Says, KeepsState, GoesOn, Launches};
@@ -42,6 +43,7 @@ pub fn tick(
     report: &mut [u64],
 ) -> Result<(), Refusal>
     ensures says { Says result memory.old readings.now frame.now report.old memory.new report.new }
+    ensures place { IfErr result (λ refusal. (turned refusal).place < word_count) }
     ensures keeps { KeepsState result memory.old readings.now frame.now memory.new }
     ensures flies { GoesOn result memory.old readings.now frame.now report.old memory.new report.new }
 {
