@@ -29,7 +29,8 @@ pub extern "C" fn board_tick(
     frame: &[u64],
     report: &mut [u64],
 ) -> u64
-    ensures { AnswersTick result memory.old readings.now frame.now report.old memory.new report.new }
+    ensures { AnswersTick result
+        memory.old readings.now frame.now report.old memory.new report.new }
 {
     answer(onboard::tick(memory, readings, frame, report))
 }

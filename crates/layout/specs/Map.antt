@@ -1,5 +1,5 @@
--- Where the words of memory lie. This table and the names below say where each part begins, and nothing else does; which
--- number of an activity or a rule stands where in its own words, schedule and rules say (their Numbers.antt).
+-- Where the words of memory lie. This table and the names below say where each part begins, and nothing
+-- else does; in which order an activity and a rule have their numbers, schedule and rules say.
 --
 --   0           time
 --   1           expected
@@ -126,7 +126,8 @@ pub record Sized (s : State) : Type 0 where
 abbrev pub ReadsBack : Type 0
 ReadsBack = (s : State) → Sized s → (length (words_of s) ≡ word_count) × (state_of (words_of s) ≡ s)
 
--- words of which nothing is read, or whether they are 1, hold 0 or 1: what no activity has, and the marks of safe mode and of rules
+-- words of which nothing is read, or whether they are 1, hold 0 or 1: what no activity has, and the
+-- marks of safe mode and of rules
 pub record Tidy (ws : List ℕ) : Type 0 where
   pub safe_mode : slice_index ws safe_mode_at ≤ 1
   pub upward : (i : ℕ) → i < 16 → slice_index ws (rules_at + 2 + rule_size * i) ≤ 1

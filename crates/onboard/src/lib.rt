@@ -45,7 +45,8 @@ pub fn tick(
     ensures says { Says result memory.old readings.now frame.now report.old memory.new report.new }
     ensures place { IfErr result (λ refusal. (turned refusal).place < word_count) }
     ensures keeps { KeepsState result memory.old readings.now frame.now memory.new }
-    ensures flies { GoesOn result memory.old readings.now frame.now report.old memory.new report.new }
+    ensures flies { GoesOn result
+        memory.old readings.now frame.now report.old memory.new report.new }
 {
     let (readings, frame) = lent_right(memory.len(), readings, frame, report.len())?;
     let mut words = [0; WORDS];
@@ -57,7 +58,8 @@ pub fn tick(
     Ok(())
 }
 
-// The tick of words that say a satellite. By itself, so that the compiler sees each copy of a satellite close to what makes it.
+// The tick of words that say a satellite. By itself, so that the compiler sees each copy of a satellite close to
+// what makes it.
 fn advance(
     memory: &mut [u64],
     words: &[u64; WORDS],
@@ -79,7 +81,8 @@ fn advance(
     report.copy_from_slice(&Report::from(&satellite).numbers());
 }
 
-// Writes the words of a satellite where they stand first, and has them kept. (There always is that room: the `requires` says so.)
+// Writes the words of a satellite where they stand first, and has them kept. (There always is that room: the
+// `requires` says so.)
 fn write_back(memory: &mut [u64], satellite: &Satellite)
     requires { length memory.old ≡ keeper.size }
     ensures { memory.new ≡ keeper.stored (words_of (model satellite.now)) }
