@@ -9,7 +9,7 @@ use Rattle.rules.specs.declared.rule.Rule.{Rule}
 use Rattle.parameters.specs.Places.{may_put}
 use Rattle.satellite.specs.State.{State, rule}
 use Rattle.satellite.specs.Fit.{most}
-use Rattle.layout.specs.Map.{word_count, bit, activity_words, rule_words, words_of, Sized, activity_size, rule_size, waiting_at, activities_at, rules_at, head_words, parts}
+use Rattle.layout.specs.Map.{bit, activity_words, rule_words, words_of, Sized, activity_size, rule_size, waiting_at, activities_at, rules_at, head_words, parts}
 use Rattle.layout.specs.Fault.{Faultless, Sane}
 use Rattle.layout.proofs.Places.{head_word, waiting_word, activity_word, rule_word}
 use Rattle.layout.proofs.Sanity.{faultless_of}
