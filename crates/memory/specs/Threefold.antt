@@ -35,7 +35,9 @@ Spared n m h c k = copy n h c k ≡ copy n m c k
 -- at least two copies of each word are as they were
 pub record Upset (n : ℕ) (m h : List ℕ) : Type 0 where
   pub long : length h ≡ length m
-  pub two : (k : ℕ) → k < n → (Spared n m h 1 k × Spared n m h 2 k) ⊎ ((Spared n m h 0 k × Spared n m h 2 k) ⊎ (Spared n m h 0 k × Spared n m h 1 k))
+  pub two : (k : ℕ) → k < n
+      → (Spared n m h 1 k × Spared n m h 2 k)
+      ⊎ ((Spared n m h 0 k × Spared n m h 2 k) ⊎ (Spared n m h 0 k × Spared n m h 1 k))
 
 -- n words kept three times
 abbrev pub threefold : ℕ → Keeper
@@ -50,4 +52,5 @@ threefold n = record {
 -- upsets do happen: none at all is one, and so is any number in any one copy of a word that had been spared so far
 pub record UpsetsHappen : Type 0 where
   pub none : (n : ℕ) (m : List ℕ) → Upset n m m
-  pub one : (n : ℕ) (m h : List ℕ) (c k v : ℕ) → c < 3 → k < n → Upset n m h → ((d : ℕ) → d < 3 → Spared n m h d k) → Upset n m (slice_set h (c * n + k) v)
+  pub one : (n : ℕ) (m h : List ℕ) (c k v : ℕ) → c < 3 → k < n → Upset n m h
+      → ((d : ℕ) → d < 3 → Spared n m h d k) → Upset n m (slice_set h (c * n + k) v)
