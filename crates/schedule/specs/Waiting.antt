@@ -3,7 +3,7 @@ use Rattle.std.specs.Prelude.{◌≡◌, ℕ, ◌<◌, Bool, true, false, cond, 
 use Rattle.schedule.specs.declared.activity.Activity.{Activity}
 use Rattle.schedule.specs.declared.activity.Fate.{Fate}
 use Rattle.schedule.specs.declared.activity.Fate.TheVariants.{Waits, Missed, Done}
-use Rattle.schedule.specs.declared.waiting.Schedule.{Schedule}
+use Rattle.schedule.specs.declared.schedule.Schedule.{Schedule}
 
 -- the activity that stands where there is none
 abbrev pub no_activity : Activity

@@ -1,8 +1,6 @@
-ghost use Rattle.std.specs.Prelude.{◌≡◌, ◌<◌, ◌≤◌, true, false, cond, [], ◌∷◌, ◌++◌, length, nat_le};
-ghost use Rattle.schedule.specs.Waiting.{waiting, fated, is_waiting, is_missed, is_done, put_all, fate_of, NothingDue, SomeDue, Placed};
+ghost use Rattle.std.specs.Prelude.{◌≤◌};
 
 use crate::activity::{Activity, Fate};
-use crate::waiting::Schedule;
 use parameters::Parameters;
 
 /// How many activities can wait.
@@ -15,7 +13,20 @@ const NO_ACTIVITY: Activity = Activity {
     number: 0,
 };
 
+/// Up to 32 activities, in the order in which they came; what lies past `count` is none of them.
+/// An array and a count: nothing on board allocates, the satellite, which has this in it, is copied by value, and an
+/// array of `Option`s could not lend those that wait as a slice.
+#[derive(Clone, Copy)]
+pub struct Schedule {
+    pub activities: [Activity; 32],
+    pub count: usize,
+    ghost few: { count ≤ 32 },
+}
+
 impl Schedule {
+    ghost use Rattle.std.specs.Prelude.{◌≡◌, ◌<◌, true, false, [], ◌∷◌, ◌++◌, length, nat_le};
+    ghost use Rattle.schedule.specs.Waiting.{waiting, fated, is_waiting, is_missed, is_done, put_all, fate_of, NothingDue, SomeDue, Placed};
+
     /// Nothing waits.
     pub fn empty() -> Schedule
         ensures { waiting result ≡ [] }
@@ -78,9 +89,13 @@ impl Schedule {
     #[inline(never)]
     pub fn release(&mut self, time: u64, safe_mode: bool, parameters: &mut Parameters) -> u64
         requires { Placed (waiting self.old) }
-        ensures waiting { waiting self.new ≡ fated is_waiting (λ a. fate_of a time safe_mode) (waiting self.old) }
-        ensures put { parameters.new.values ≡ put_all (fated is_done (λ a. fate_of a time safe_mode) (waiting self.old)) parameters.old.values }
-        ensures missed { result ≡ length (fated is_missed (λ a. fate_of a time safe_mode) (waiting self.old)) }
+        ensures waiting { waiting self.new
+            ≡ fated is_waiting (λ a. fate_of a time safe_mode) (waiting self.old) }
+        ensures put { parameters.new.values
+            ≡ put_all (fated is_done (λ a. fate_of a time safe_mode) (waiting self.old))
+            parameters.old.values }
+        ensures missed { result
+            ≡ length (fated is_missed (λ a. fate_of a time safe_mode) (waiting self.old)) }
         ensures few { result ≤ 32 }
     {
         // Mostly nothing is due, which is found out sooner than it is done.
@@ -91,25 +106,12 @@ impl Schedule {
         self.clear();
         let mut missed = 0;
         for activity in before.waiting() {
-            match fate(*activity, time, safe_mode) {
+            match activity.fate(time, safe_mode) {
                 Fate::Waits => self.add(*activity),
                 Fate::Missed => missed += 1,
                 Fate::Done => parameters.put(activity.place, activity.number),
             }
         }
         missed
-    }
-}
-
-// What becomes of an activity in a tick: it waits on unless its time is now, and in safe mode it is then missed.
-fn fate(activity: Activity, time: u64, safe_mode: bool) -> Fate
-    ensures { result ≡ fate_of activity time safe_mode }
-{
-    if activity.release != time {
-        Fate::Waits
-    } else if safe_mode {
-        Fate::Missed
-    } else {
-        Fate::Done
     }
 }

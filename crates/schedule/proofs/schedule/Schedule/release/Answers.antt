@@ -3,8 +3,8 @@ use Rattle.std.proofs.lemmas.List.{take_more}
 use Rattle.schedule.specs.declared.activity.Activity.{Activity}
 use Rattle.schedule.specs.Waiting.{no_activity, waiting, fate_of, put_all}
 use Rattle.schedule.proofs.Releasing.{none_seen, waits_on, missing, putting, moved}
-use Rattle.schedule.proofs.waiting.Schedule.release.Goals as goal
-use Rattle.schedule.proofs.waiting.Schedule.release.Goals.{in-Waits, in-Missed, in-Done}
+use Rattle.schedule.proofs.schedule.Schedule.release.Goals as goal
+use Rattle.schedule.proofs.schedule.Schedule.release.Goals.{in-Waits, in-Missed, in-Done}
 
 pub returns-then-not-is_due-clause-waiting : goal.returns-then-not-is_due-clause-waiting
 returns-then-not-is_due-clause-waiting c = sym (c.is_due.ensures.none c.if-not-is_due.true c.args.safe_mode).0
