@@ -1,5 +1,5 @@
 -- Activities that wait for their time, in the order in which they came.
-use Rattle.std.specs.Prelude.{◌≡◌, ℕ, ◌<◌, Bool, true, false, cond, List, [], ◌∷◌, length, get_or, take, ◌==◌, slice_set}
+use Rattle.std.specs.Prelude.{◌≡◌, ℕ, ◌<◌, Bool, true, false, cond, List, [], ◌∷◌, length, get_or, ◌==◌, slice_set}
 use Rattle.schedule.specs.declared.activity.Activity.{Activity}
 use Rattle.schedule.specs.declared.activity.Fate.{Fate}
 use Rattle.schedule.specs.declared.activity.Fate.TheVariants.{Waits, Missed, Done}
@@ -11,7 +11,7 @@ no_activity = record { release = 0; place = 0; number = 0 }
 
 -- the activities that wait in a schedule of the code
 abbrev pub waiting : Schedule → List Activity
-waiting s = take s.count s.activities
+waiting s = s.activities.items
 
 -- those whose time it is, and those that wait on, both in their order
 abbrev pub due : ℕ → List Activity → List Activity

@@ -3,7 +3,7 @@ ghost use Rattle.schedule.specs.Numbers.{activity_numbers, activity_in};
 ghost use Rattle.schedule.specs.Waiting.{fate_of};
 
 /// A number that is put at a place in the tick of its release.
-#[derive(Clone, Copy, PartialEq, Eq, Debug, Drop)]
+#[derive(Clone, Copy, Default, PartialEq, Eq, Debug, Drop)]
 pub struct Activity {
     pub release: u64,
     pub place: u64,

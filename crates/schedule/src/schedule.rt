@@ -1,30 +1,18 @@
-ghost use Rattle.std.specs.Prelude.{◌≤◌};
-
 use crate::activity::{Activity, Fate};
+use arrayvec::ArrayVec;
 use parameters::Parameters;
 
 /// How many activities can wait.
 pub const ROOM: usize = 32;
 
-// Stands where no activity waits.
-const NO_ACTIVITY: Activity = Activity {
-    release: 0,
-    place: 0,
-    number: 0,
-};
-
-/// Up to 32 activities, in the order in which they came; what lies past `count` is none of them.
-/// An array and a count: nothing on board allocates, the satellite, which has this in it, is copied by value, and an
-/// array of `Option`s could not lend those that wait as a slice.
-#[derive(Clone, Copy)]
+/// Up to 32 activities, in the order in which they came.
+#[derive(Drop)]
 pub struct Schedule {
-    pub activities: [Activity; 32],
-    pub count: usize,
-    ghost few: { count ≤ 32 },
+    pub activities: ArrayVec<Activity, ROOM>,
 }
 
 impl Schedule {
-    ghost use Rattle.std.specs.Prelude.{◌≡◌, ◌<◌, true, false, [], ◌∷◌, ◌++◌, length, nat_le};
+    ghost use Rattle.std.specs.Prelude.{◌≡◌, ◌<◌, ◌≤◌, true, false, [], ◌∷◌, ◌++◌, length, nat_le};
     ghost use Rattle.schedule.specs.Waiting.{waiting, fated, is_waiting, is_missed, is_done, put_all, fate_of, NothingDue, SomeDue, Placed};
 
     /// Nothing waits.
@@ -32,23 +20,23 @@ impl Schedule {
         ensures { waiting result ≡ [] }
     {
         Schedule {
-            activities: [NO_ACTIVITY; ROOM],
-            count: 0,
+            activities: ArrayVec::new(),
         }
     }
 
     /// Those that wait.
     pub fn waiting(&self) -> &[Activity]
-        ensures { result.now ≡ waiting self.now }
+        ensures all { result.now ≡ waiting self.now }
+        ensures few { length result.now ≤ 32 }
     {
-        &self.activities[..self.count]
+        self.activities.as_slice()
     }
 
     /// How many wait.
     pub fn len(&self) -> usize
         ensures { result ≡ length (waiting self.now) }
     {
-        self.count
+        self.activities.len()
     }
 
     /// Whether no more activity can wait.
@@ -72,7 +60,7 @@ impl Schedule {
     pub fn clear(&mut self)
         ensures { waiting self.new ≡ [] }
     {
-        self.count = 0;
+        self.activities.clear();
     }
 
     /// One more activity waits, behind the others.
@@ -80,8 +68,7 @@ impl Schedule {
         requires { length (waiting self.old) < 32 }
         ensures { waiting self.new ≡ waiting self.old ++ (activity ∷ []) }
     {
-        self.activities[self.count] = activity;
-        self.count += 1;
+        self.activities.push(activity);
     }
 
     /// The due activities put their numbers, one after the other, or are missed in safe mode; either way they are gone.
@@ -102,10 +89,9 @@ impl Schedule {
         if !self.is_due(time) {
             return 0;
         }
-        let before = *self;
-        self.clear();
+        let before = self.activities.take();
         let mut missed = 0;
-        for activity in before.waiting() {
+        for activity in before.as_slice() {
             match activity.fate(time, safe_mode) {
                 Fate::Waits => self.add(*activity),
                 Fate::Missed => missed += 1,
