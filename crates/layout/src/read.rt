@@ -9,7 +9,7 @@ use crate::map::{
     ACTIVITIES, ACTIVITY, COUNTS, EXPECTED, MISSED, PARAMETERS, REJECTED, RULE, RULES, SAFE_MODE,
     TIME, WAITING, WORDS,
 };
-use rules::{Rule, Monitor};
+use rules::{Monitor, Rule};
 use satellite::Satellite;
 use schedule::{Activity, Schedule};
 
@@ -42,6 +42,7 @@ fn fill(words: &[u64; WORDS], satellite: &mut Satellite)
     fill_monitors(words, &mut satellite.rules.monitors);
 }
 
+// Those that wait, one after the other.
 fn fill_schedule(words: &[u64; WORDS], schedule: &mut Schedule)
     requires { slice_index words.now waiting_at ≤ 32 }
     ensures { waiting schedule.new ≡ schedule_in words.now }

@@ -1,3 +1,6 @@
+ghost use Rattle.std.specs.Prelude.{◌≡◌, ◌<◌, ◌≤◌, true, false, [], ◌∷◌, ◌++◌, length, nat_le};
+ghost use Rattle.schedule.specs.Waiting.{waiting, fated, is_waiting, is_missed, is_done, put_all, fate_of, NothingDue, SomeDue, Placed};
+
 use crate::activity::{Activity, Fate};
 use arrayvec::ArrayVec;
 use parameters::Parameters;
@@ -5,16 +8,13 @@ use parameters::Parameters;
 /// How many activities can wait.
 pub const ROOM: usize = 32;
 
-/// Up to 32 activities, in the order in which they came.
+/// Up to 32 activities, in the order in which they came, in the satellite itself: nothing on board allocates.
 #[derive(Drop)]
 pub struct Schedule {
-    pub activities: ArrayVec<Activity, ROOM>,
+    activities: ArrayVec<Activity, ROOM>,
 }
 
 impl Schedule {
-    ghost use Rattle.std.specs.Prelude.{◌≡◌, ◌<◌, ◌≤◌, true, false, [], ◌∷◌, ◌++◌, length, nat_le};
-    ghost use Rattle.schedule.specs.Waiting.{waiting, fated, is_waiting, is_missed, is_done, put_all, fate_of, NothingDue, SomeDue, Placed};
-
     /// Nothing waits.
     pub fn empty() -> Schedule
         ensures { waiting result ≡ [] }
@@ -43,7 +43,7 @@ impl Schedule {
     pub fn is_full(&self) -> bool
         ensures { result ≡ nat_le 32 (length (waiting self.now)) }
     {
-        self.len() >= ROOM
+        self.activities.is_full()
     }
 
     /// Whether it is the time of an activity.
