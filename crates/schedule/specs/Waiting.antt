@@ -1,5 +1,6 @@
 -- Activities that wait for their time, in the order in which they came.
 use Rattle.std.specs.Prelude.{◌≡◌, ℕ, ◌<◌, Bool, true, false, cond, List, [], ◌∷◌, length, get_or, ◌==◌, slice_set}
+use Rattle.std.specs.List.{filter}
 use Rattle.schedule.specs.declared.activity.Activity.{Activity}
 use Rattle.schedule.specs.declared.activity.Fate.{Fate}
 use Rattle.schedule.specs.declared.activity.Fate.TheVariants.{Waits, Missed, Done}
@@ -43,8 +44,7 @@ is_done Missed = false
 is_done Done = true
 
 abbrev pub fated : (Fate → Bool) → (Activity → Fate) → List Activity → List Activity
-fated p f [] = []
-fated p f (a ∷ xs) = cond (p (f a)) (a ∷ fated p f xs) (fated p f xs)
+fated p f xs = filter (λ a. p (f a)) xs
 
 -- all of them wait on, or it is the time of one of them
 abbrev pub AllWait : (Activity → Fate) → List Activity → Type 0

@@ -89,15 +89,15 @@ impl Schedule {
         if !self.is_due(time) {
             return 0;
         }
-        let before = self.activities.take();
         let mut missed = 0;
-        for activity in before.as_slice() {
+        for activity in self.waiting() {
             match activity.fate(time, safe_mode) {
-                Fate::Waits => self.add(*activity),
+                Fate::Waits => {}
                 Fate::Missed => missed += 1,
                 Fate::Done => parameters.put(activity.place, activity.number),
             }
         }
+        self.activities.retain(|activity| activity.release != time);
         missed
     }
 }

@@ -1,7 +1,6 @@
-use Rattle.std.proofs.Common.{take}
 use Rattle.schedule.specs.Waiting.{waiting, fate_of}
 use Rattle.schedule.proofs.Releasing.{Sofar}
 use Rattle.schedule.proofs.schedule.Schedule.release.Given as goal
 
 abbrev pub invariant-loop-activity : goal.invariant-loop-activity
-invariant-loop-activity l = Sofar (λ a. fate_of a l.time l.safe_mode) l.initial.parameters.values (take l.activity-index (waiting l.fn.self)) (waiting l.self) l.missed l.parameters.values
+invariant-loop-activity l = Sofar (λ a. fate_of a l.time l.safe_mode) l.initial.parameters.values (waiting l.fn.self) l.activity-index l.missed l.parameters.values
