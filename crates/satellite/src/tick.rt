@@ -9,7 +9,7 @@ ghost use Rattle.satellite.specs.Model.{model};
 use crate::state::Satellite;
 use frame::decode;
 use parameters::Parameters;
-use rules::{COUNT, Rule, Rules, Monitor};
+use rules::{COUNT, Monitor, Rule, Rules};
 use schedule::Schedule;
 
 impl Satellite {
