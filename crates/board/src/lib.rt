@@ -3,10 +3,12 @@
 #![tactic(auto)]
 
 ghost use Rattle.std.specs.Prelude.{◌≡◌, ◌<◌, IfErr};
-ghost use Rattle.onboard.specs.Entry.{refusal_place};
+ghost use Rattle.refusal.specs.Turned.{turned};
+ghost use Rattle.layout.specs.Map.{word_count};
+ghost use Rattle.onboard.specs.Entry.{answered};
 ghost use Rattle.board.specs.Answer.{answer_of, AnswersTick, AnswersLaunch};
 
-use onboard::Refusal;
+use refusal::Refusal;
 
 // What the number of a refusal is multiplied with, so that its place can stand below it.
 const PLACES: u64 = 1 << 32;
@@ -34,8 +36,8 @@ pub extern "C" fn board_tick(
 
 // One number, since C has no `Result`.
 fn answer(done: Result<(), Refusal>) -> u64
-    requires { IfErr done (λ refusal. refusal_place refusal < 294) }
-    ensures { result ≡ answer_of done }
+    requires { IfErr done (λ refusal. (turned refusal).place < word_count) }
+    ensures { result ≡ answer_of (answered done) }
 {
     match done {
         Ok(()) => 0,

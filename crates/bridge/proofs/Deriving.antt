@@ -1,19 +1,19 @@
 -- The promises of then follow from the theorems of today, over histories of readings and frames of then.
 use Rattle.std.proofs.Common.{◌≡◌, ℕ, zero, suc, ◌+◌, ◌<◌, ◌≤◌, Bool, true, false, cond, eqb, ◌⊎◌, List, [], ◌∷◌, ◌++◌, map, length, get_or, Some, None, Option, sym, refl, ap, ◌∙◌, subst, inl, inr, ⊎_elim, arith}
 use Rattle.std.proofs.lemmas.List.{length-map, map-append}
-use Rattle.std.proofs.lemmas.Bool.{leb-true, and_parts, cond_both, cond-true, eqb-true, eq-eqb}
+use Rattle.std.proofs.lemmas.Bool.{leb-true, and_parts}
 use Rattle.origin.specs.Sat.{Wait, Rule, Command, put, later, forget, sleep, wake, set_rule, other, is_past, begins, how_many, due_done}
 use Rattle.origin.specs.Flight.{Heard, nothing, command, Round}
 use Rattle.origin.specs.Flight as origin
 use Rattle.origin.specs.Promise.{Among, here, there, FromGround, obeyed_with, obeyed, first_sent, LastOf, last, further, past_for, Unset}
 use Rattle.origin.proofs.Steps.{all_ruled_waits, all_ruled_time}
-use Rattle.origin.proofs.Waits as then
 use Rattle.origin.specs.Entry.{Input, round_of, all_at_most}
 use Rattle.origin.specs.Entry as raw
 use Rattle.schedule.specs.declared.activity.Activity.{Activity}
 use Rattle.schedule.specs.Waiting.{due}
 use Rattle.frame.specs.declared.Command as today
-use Rattle.frame.specs.declared.Command.TheVariants.{Put, Later, Forget, Sleep, Wake, SetRule, Unknown}
+use Rattle.frame.specs.declared.Command.TheVariants.{Put, Later, Forget, Sleep, Wake, SetRule}
+use Rattle.frame.specs.Frame.{kind_of}
 use Rattle.frame.specs.declared.Telecommand.{Telecommand}
 use Rattle.satellite.specs.State.{State}
 use Rattle.satellite.specs.Story.{Inputs, at_release, at_reception}
@@ -23,12 +23,13 @@ use Rattle.flight.specs.Flight.{Lawful, machine, after}
 use Rattle.flight.specs.Commanding.{heard, Turn, obeyed_in}
 use Rattle.flight.specs.Commanding as commanding
 use Rattle.flight.specs.Scheduling as scheduling
-use Rattle.flight.specs.Scheduling.{Parts}
+use Rattle.flight.specs.Scheduling.{LastForPlace}
 use Rattle.flight.specs.Protecting as protecting
 use Rattle.flight.proofs.Waits.{among_cons}
 use Rattle.flight.proofs.Commanded.{each_once, comes_through, safe_at_once}
-use Rattle.flight.proofs.Effected.{keeps_sizes, reads_right, time_right}
-use Rattle.flight.proofs.Scheduled.{never_late, parts_in_tick, kept_till_due, put_when_due, missed_in_safe_mode}
+use Rattle.flight.proofs.Effected.{keeps_sizes, reads_right}
+use Rattle.flight.proofs.Scheduled.{never_late, put_when_due, missed_in_safe_mode}
+use Rattle.flight.proofs.Fates.{each_activity}
 use Rattle.flight.proofs.Steps.{release_kept}
 use Rattle.flight.proofs.Protected.{instruments_right}
 use Rattle.bridge.specs.Bridge.{now_wait, now_rule, now_command, now_heard, now_input, now_inputs}
@@ -61,7 +62,7 @@ rest_of i is (more_then j js l o ls) = ls
 turn : (i : Input) (is : List Input) (c : Command) → AllThen (i ∷ is) → (round_of i).heard ≡ command (origin.after (rounds is)).next c → Turn (now_input i) (now_inputs is) (now_command c)
 turn i is c l e = heard_same i is l ∙ ap now_heard e ∙ (λ j. Some (record { number = sym (same is (rest_of i is l)).next j; command = now_command c }))
 
--- what was of today is of then
+-- what is of today was of then: a later kind was of none
 then_command : today.Command → Command
 then_command (Put i v) = put i v
 then_command (Later a) = later a.release a.place a.number
@@ -69,7 +70,7 @@ then_command Forget = forget
 then_command Sleep = sleep
 then_command Wake = wake
 then_command (SetRule k r) = set_rule k (record { value = r.watches; limit = r.limit; upward = r.upward; needs = r.needs; rests = r.safes; place = r.place; number = r.number })
-then_command (Unknown n) = other n
+then_command c = other (kind_of c)
 
 then_back : (c : Command) → then_command (now_command c) ≡ c
 unfolding then_command
@@ -143,17 +144,6 @@ among_then w [] a = elim a [ ]
 among_then w (v ∷ ws) a =
     ⊎_elim (λ (e : now_wait w ≡ now_wait v). subst (λ x. Among x (v ∷ ws)) (sym (ap (λ (x : Activity). wait_of x) e)) (here ws)) (λ b. there v ws (among_then w ws b)) (among_cons (now_wait w) (now_wait v) (map now_wait ws) a)
 
-among_front : (a : Activity) (xs ys : List Activity) → scheduling.Among a xs → scheduling.Among a (xs ++ ys)
-among_front a xs ys (scheduling.here zs) = scheduling.here (zs ++ ys)
-among_front a xs ys (scheduling.there z zs m) = scheduling.there z (zs ++ ys) (among_front a zs ys m)
-
-among_part : (t : ℕ) (xs ds os : List Activity) (a : Activity) → Parts t xs ds os → scheduling.Among a xs → (a.release ≡ t) ⊎ scheduling.Among a os
-among_part t xs ds os a scheduling.none m = elim m [ ]
-among_part t xs ds os a (scheduling.one_due b all es ps e p) m =
-    ⊎_elim (λ (d : a ≡ b). inl (ap (λ (y : Activity). y.release) d ∙ e)) (λ n. among_part t all es ps a p n) (among_cons a b all m)
-among_part t xs ds os a (scheduling.one_other b all es ps f p) m =
-    ⊎_elim (λ (d : a ≡ b). inr (subst (λ y. scheduling.Among a (y ∷ ps)) d (scheduling.here ps))) (λ n. ⊎_elim inl (λ q. inr (scheduling.there b ps q)) (among_part t all es ps a p n)) (among_cons a b all m)
-
 derived_each_once : (sent : ℕ → Command) (is : List Input) → AllThen is → ((r : Round) → Among r (rounds is) → FromGround sent r) → obeyed (rounds is) ≡ first_sent sent (origin.after (rounds is)).next
 derived_each_once sent is l g =
     let e : map now_command (obeyed (rounds is)) ≡ map now_command (first_sent sent (origin.after (rounds is)).next) =
@@ -169,15 +159,9 @@ derived_kept i is w l a f =
     let before = now_inputs is in
     let b = same is ls in
     let n = same (i ∷ is) l in
-    let time : suc (after before).time ≡ (origin.after (rounds (i ∷ is))).time = ap suc (time_right before) ∙ sym (time_right (now ∷ before)) ∙ n.time in
-    let back : scheduling.Among (now_wait w) (after (now ∷ before)).schedule → Among w (origin.after (rounds (i ∷ is))).waits =
-    λ m. among_then w (origin.after (rounds (i ∷ is))).waits (subst (scheduling.Among (now_wait w)) n.waits m) in
-    ⊎_elim (λ (e : w.at ≡ suc (after before).time). inr (e ∙ time))
-    (λ m. inl (back (⊎_elim (λ e. subst (scheduling.Among (now_wait w)) (sym e) m)
-    (λ (x : (v : Activity) × Turn now before (Later v) × ((after (now ∷ before)).schedule ≡ (at_reception now (after before)).schedule ++ (v ∷ []))).
-    subst (scheduling.Among (now_wait w)) (sym x.2) (among_front (now_wait w) (at_reception now (after before)).schedule (x.0 ∷ []) m))
-    (kept_till_due now before (λ t. f (turn_then i is forget l t))))))
-    (among_part (suc (after before).time) (after before).schedule _ _ (now_wait w) (parts_in_tick now before) (subst (scheduling.Among (now_wait w)) (sym b.waits) (among_now w (origin.after (rounds is)).waits a)))
+    let waits = subst (scheduling.Among (now_wait w)) (sym b.waits) (among_now w (origin.after (rounds is)).waits a) in
+    ⊎_elim (λ e. inr (e ∙ n.time)) (λ m. inl (among_then w (origin.after (rounds (i ∷ is))).waits (subst (scheduling.Among (now_wait w)) n.waits m)))
+    (each_activity.stays now before (now_wait w) waits (λ t. f (turn_then i is forget l t)))
 
 unset : (k : ℕ) (late early : List Input) → AllThen (late ++ early) → Unset k (rounds late) (rounds early) → protecting.Unset k (now_inputs late) (now_inputs early)
 unset k [] early l u = tt
@@ -217,14 +201,16 @@ before_same : (i : Input) (is : List Input) → AllThen (i ∷ is) → Same (at_
 before_same i is (more_then j js l o ls) =
     reception_same (now_input i) (round_of i).reading (s_of is) (origin.after (rounds is)) (record { long = l.readings; each = λ k h. refl }) (after_orderly (rounds is)) (after_plain (now_inputs is) (rounds is) (raw_as_it_was is ls)) (same is ls)
 
+-- what waits at the release, and its time, of today and of then
+waits_then : (i : Input) (is : List Input) → AllThen (i ∷ is) → (s_of is).schedule ≡ map now_wait (at_waits i is).waits
+waits_then i is l = (same is (rest_of i is l)).waits ∙ ap (map now_wait) (sym (all_ruled_waits 16 (begins (round_of i).reading (origin.after (rounds is)))))
+
+time_then : (i : Input) (is : List Input) → AllThen (i ∷ is) → suc (s_of is).time ≡ (at_waits i is).time
+time_then i is l = ap suc (same is (rest_of i is l)).time ∙ sym (all_ruled_time 16 (begins (round_of i).reading (origin.after (rounds is))))
+
 -- those that are due, of today and of then
 dues : (i : Input) (is : List Input) → AllThen (i ∷ is) → due (suc (s_of is).time) (s_of is).schedule ≡ map now_wait (due_of (at_waits i is).time (at_waits i is).waits)
-dues i is l =
-    let b = begins (round_of i).reading (origin.after (rounds is)) in
-    let h = same is (rest_of i is l) in
-    let t : suc (s_of is).time ≡ (at_waits i is).time = ap suc h.time ∙ sym (all_ruled_time 16 b) in
-    let w : (s_of is).schedule ≡ map now_wait (at_waits i is).waits = h.waits ∙ ap (map now_wait) (sym (all_ruled_waits 16 b)) in
-    (λ k. due (t k) (w k)) ∙ due_same (at_waits i is).time (at_waits i is).waits (all_coming (round_of i).reading (origin.after (rounds is)) (after_orderly (rounds is)))
+dues i is l = (λ k. due (time_then i is l k) (waits_then i is l k)) ∙ due_same (at_waits i is).time (at_waits i is).waits (all_coming (round_of i).reading (origin.after (rounds is)) (after_orderly (rounds is)))
 
 derived_rest : (i : Input) (is : List Input) (k : ℕ) → AllThen (i ∷ is) → k < 64 → (at_waits i is).rest ≡ true → (due_done (at_waits i is)).value k ≡ (at_waits i is).value k
 derived_rest i is k l lt e =
@@ -240,51 +226,34 @@ derived_missed i is l e =
     let c : (s_of is).missed ≡ (at_waits i is).missed = ap (λ (u : State). u.missed) (sym (release_kept (now_input i) (s_of is))) ∙ a.missed in
     sym (before_same i is l).missed ∙ m.1 ∙ (λ k. c k + n k)
 
--- the last of its place among those that are due
-record Split (p : ℕ) (w : Wait) (ds : List Wait) : Type 0 where
-  pub front : List Wait
-  pub back : List Wait
-  pub is : ds ≡ front ++ (w ∷ back)
-  pub none_behind : (v : Wait) → Among v back → v.place ≡ p → ⊥
+-- the last of its place and time then is the last for its place now
+among_mapped : (b : Activity) (ws : List Wait) → scheduling.Among b (map now_wait ws) → (v : Wait) × Among v ws × (b ≡ now_wait v)
+among_mapped b [] m = elim m [ ]
+among_mapped b (v ∷ ws) m = ⊎_elim (λ e. (v, here ws, e)) (λ n. let x = among_mapped b ws n in (x.0, there v ws x.1, x.2)) (among_cons b (now_wait v) (map now_wait ws) m)
 
-among_due : (t : ℕ) (ws : List Wait) (v : Wait) → Among v (due_of t ws) → Among v ws × (v.at ≡ t)
-unfolding due_of
-among_due t [] v a = elim a [ ]
-among_due t (w ∷ ws) v a =
-    let rest = λ (m : Among v (due_of t ws)). let q = among_due t ws v m in let p : Among v (w ∷ ws) × (v.at ≡ t) = (there w ws q.0, q.1) in p in
-    cond_both (eqb w.at t) (w ∷ due_of t ws) (due_of t ws) (λ xs. Among v xs → Among v (w ∷ ws) × (v.at ≡ t))
-    (λ e m. ⊎_elim (λ d. (subst (λ y. Among y (w ∷ ws)) (sym d) (here ws), ap (λ (y : Wait). y.at) d ∙ eqb-true w.at t e)) rest (then.among_cons v w (due_of t ws) m)) (λ _ m. rest m) a
-
-split : (p t : ℕ) (w : Wait) (ws : List Wait) → LastOf p t w ws → Split p w (due_of t ws)
-unfolding due_of
-split p t w us (last v ws ep et alone) = record {
+last_now : (p t : ℕ) (w : Wait) (ws : List Wait) → LastOf p t w ws → LastForPlace (now_wait w) (map now_wait ws)
+last_now p t w us (last v ws ep et alone) = record {
   front = [];
-  back = due_of t ws;
-  is = cond-true (eqb v.at t) (v ∷ due_of t ws) (due_of t ws) (eq-eqb v.at t et);
-  none_behind = λ x a e. (let q = among_due t ws x a in alone x q.0 e q.1);
+  back = map now_wait ws;
+  stands = refl;
+  last = λ b m r d. (let x = among_mapped b ws m in alone x.0 x.1 (sym (ap (λ (y : Activity). y.place) x.2) ∙ d ∙ ep) (sym (ap (λ (y : Activity). y.release) x.2) ∙ r ∙ et));
 }
-split p t w us (further x v ws m) =
-    let s = split p t w ws m in
-    cond_both (eqb v.at t) (v ∷ due_of t ws) (due_of t ws) (Split p w) (λ _. record { front = v ∷ s.front; back = s.back; is = ap (λ (xs : List Wait). v ∷ xs) s.is; none_behind = s.none_behind }) (λ _. s)
+last_now p t w us (further x v ws m) =
+    let s = last_now p t w ws m in
+    record { front = now_wait v ∷ s.front; back = s.back; stands = ap (λ (xs : List Activity). now_wait v ∷ xs) s.stands; last = s.last }
 
-among_middle : (front back : List Wait) (x : Wait) → Among x (front ++ (x ∷ back))
-among_middle [] back x = here back
-among_middle (y ∷ front) back x = there y (front ++ (x ∷ back)) (among_middle front back x)
-
-others : (p : ℕ) (ws : List Wait) (b : Activity) → ((v : Wait) → Among v ws → v.place ≡ p → ⊥) → scheduling.Among b (map now_wait ws) → b.place ≡ p → ⊥
-others p [] b g m d = elim m [ ]
-others p (v ∷ ws) b g m d =
-    ⊎_elim {C = ⊥} (λ (q : b ≡ now_wait v). g v (here ws) (sym (ap (λ (y : Activity). y.place) q) ∙ d)) (λ n. others p ws b (λ x a. g x (there v ws a)) n d) (among_cons b (now_wait v) (map now_wait ws) m)
+last_waits : (p t : ℕ) (w : Wait) (ws : List Wait) → LastOf p t w ws → Among w ws × (w.at ≡ t)
+last_waits p t w us (last v ws ep et alone) = (here ws, et)
+last_waits p t w us (further x v ws m) = let q = last_waits p t w ws m in (there v ws q.0, q.1)
 
 derived_put : (i : Input) (is : List Input) (w : Wait) → AllThen (i ∷ is) → (at_waits i is).rest ≡ false → LastOf w.place (at_waits i is).time w (at_waits i is).waits → (due_done (at_waits i is)).value w.place ≡ w.number
 derived_put i is w l e h =
     let a = at_release_same i is l in
-    let s = split w.place (at_waits i is).time w (at_waits i is).waits h in
-    let d : due (suc (s_of is).time) (s_of is).schedule ≡ map now_wait s.front ++ (now_wait w ∷ map now_wait s.back) = dues i is l ∙ ap (map now_wait) s.is ∙ map-append now_wait s.front (w ∷ s.back) in
-    let m = among_due (at_waits i is).time (at_waits i is).waits w (subst (Among w) (sym s.is) (among_middle s.front s.back w)) in
+    let m = last_waits w.place (at_waits i is).time w (at_waits i is).waits h in
     let low = (after_orderly (rounds is)).waits.places w (subst (Among w) (all_ruled_waits 16 (begins (round_of i).reading (origin.after (rounds is)))) m.0) in
+    let last = subst (LastForPlace (now_wait w)) (sym (waits_then i is l)) (last_now w.place (at_waits i is).time w (at_waits i is).waits h) in
     sym ((before_same i is l).values.each w.place low.1)
-    ∙ put_when_due (now_input i) (now_inputs is) (map now_wait s.front) (map now_wait s.back) (now_wait w) (all_lawful (i ∷ is) l) (a.rest ∙ e) d (λ b m. others w.place s.back b s.none_behind m)
+    ∙ put_when_due (now_input i) (now_inputs is) (now_wait w) (all_lawful (i ∷ is) l) (a.rest ∙ e) last (m.1 ∙ sym (time_then i is l))
 
 pub derived : Derived
 derived = record {

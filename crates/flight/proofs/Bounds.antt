@@ -1,5 +1,5 @@
 -- How large what the satellite holds can be after so many ticks.
-use Rattle.std.proofs.Common.{◌≡◌, ℕ, zero, suc, ◌+◌, ◌<◌, ◌≤◌, cond, List, [], ◌∷◌, ◌++◌, length, get_or, set, replicate, sym, ap, subst, ⊎_elim, arith, length-append}
+use Rattle.std.proofs.Common.{◌≡◌, ℕ, zero, suc, ◌+◌, ◌<◌, ◌≤◌, cond, List, [], ◌∷◌, length, get_or, set, replicate, sym, ap, subst, ⊎_elim, arith, length-append}
 use Rattle.std.proofs.lemmas.Bool.{cases_lt, cases_eq, cond_both}
 use Rattle.std.proofs.lemmas.List.{get_or-set_other}
 use Rattle.schedule.specs.declared.activity.Activity.{Activity}
@@ -8,8 +8,8 @@ use Rattle.rules.specs.declared.rule.Rule.{Rule}
 use Rattle.rules.specs.Watching.{off, is_past}
 use Rattle.frame.specs.declared.Command.{Command}
 use Rattle.frame.specs.declared.Telecommand.{Telecommand}
-use Rattle.satellite.specs.State.{State, with_parameters, with_schedule, with_rules, with_counts, parameter, rule, count, at_launch}
-use Rattle.satellite.specs.Story.{Inputs, begun, looked, watched_one, watched, done, expecting_next, obeyed, at_release, at_reception}
+use Rattle.satellite.specs.State.{State, parameter, rule, count, at_launch}
+use Rattle.satellite.specs.Story.{Inputs, begun, looked, watched_one, watched, parameters_by, schedule_by, rules_by, counts_by, done, expecting_next, obeyed, at_release, at_reception}
 use Rattle.satellite.proofs.Watching.{one_rules, watched_rules, count_before}
 use Rattle.flight.specs.Machine.{AllLawful, more}
 use Rattle.flight.specs.Flight.{Lawful, machine, after}
@@ -108,31 +108,41 @@ reception_bounded n i s l b =
 looser : (t n : ℕ) (s : State) → Bounded t n s → Bounded t (suc n) s
 looser t n s h = record { time = h.time; expected = omega arith; rejected = omega arith; missed = omega arith; parameters = h.parameters; schedule = h.schedule; rules = h.rules; counts = h.counts }
 
--- and once the next is expected
-next : (t n : ℕ) (s : State) → Bounded t n s → Bounded t (suc n) (expecting_next s)
-next t n s h = record { time = h.time; expected = omega arith; rejected = omega arith; missed = omega arith; parameters = h.parameters; schedule = h.schedule; rules = h.rules; counts = h.counts }
+-- what a command makes of each part: one activity more at most, and small numbers
+schedule_length : (c : Command) (xs : List Activity) → length (schedule_by c xs) ≤ suc (length xs)
+schedule_length (Command.Later a) xs = omega (arith, length-append xs (a ∷ []))
+schedule_length Command.Forget xs = omega arith
+schedule_length _ xs = omega arith
 
--- with other parameters
-valued : (t n : ℕ) (s : State) (v : List ℕ) → ((k : ℕ) → Small (get_or v k 0)) → Bounded t n s → Bounded t n (with_parameters v s)
-valued t n s v p h = record { time = h.time; expected = h.expected; rejected = h.rejected; missed = h.missed; parameters = p; schedule = h.schedule; rules = h.rules; counts = h.counts }
+schedule_small : (c : Command) (xs : List Activity) → SmallCommand c → ((a : Activity) → Among a xs → SmallActivity a) → (a : Activity) → Among a (schedule_by c xs) → SmallActivity a
+schedule_small (Command.Later b) xs q h a m = ⊎_elim (h a) (λ e. subst SmallActivity (sym e) q) (among_append a b xs m)
+schedule_small Command.Forget xs q h a m = elim m [ ]
+schedule_small _ xs q h a m = h a m
 
--- with other activities, of which one more may be missed
-scheduled : (t n : ℕ) (s : State) (xs : List Activity) → length xs ≤ suc (length s.schedule) → ((a : Activity) → Among a xs → SmallActivity a) → Bounded t n s → Bounded t (suc n) (expecting_next (with_schedule xs s))
-scheduled t n s xs l q h = record { time = h.time; expected = omega arith; rejected = omega arith; missed = omega arith; parameters = h.parameters; schedule = q; rules = h.rules; counts = h.counts }
+parameters_small : (c : Command) (xs : List ℕ) (k : ℕ) → SmallCommand c → Small (get_or xs k 0) → Small (get_or (parameters_by c xs) k 0)
+parameters_small (Command.Put a b) xs k q h = set_both Small xs a b 0 k q h
+parameters_small _ xs k q h = h
 
-ruled : (t n : ℕ) (s : State) (rs : List Rule) (cs : List ℕ) → ((k : ℕ) → SmallRule (get_or rs k off)) → ((k : ℕ) → get_or cs k 0 ≤ t) → Bounded t n s → Bounded t n (with_rules rs (with_counts cs s))
-ruled t n s rs cs q c h = record { time = h.time; expected = h.expected; rejected = h.rejected; missed = h.missed; parameters = h.parameters; schedule = h.schedule; rules = q; counts = c }
+rules_small : (c : Command) (rs : List Rule) (k : ℕ) → SmallCommand c → SmallRule (get_or rs k off) → SmallRule (get_or (rules_by c rs) k off)
+rules_small (Command.SetRule j r) rs k q h = set_both SmallRule rs j r off k q h
+rules_small _ rs k q h = h
 
--- a command done, or rejected, before the next is expected
+counts_most : (t : ℕ) (c : Command) (ns : List ℕ) (k : ℕ) → get_or ns k 0 ≤ t → get_or (counts_by c ns) k 0 ≤ t
+counts_most t (Command.SetRule j r) ns k h = set_both (λ x. x ≤ t) ns j 0 0 k (omega arith) h
+counts_most t _ ns k h = h
+
+-- a command done, and the next is expected
 done_bounded : (t n : ℕ) (s : State) (c : Command) → SmallCommand c → Bounded t n s → Bounded t (suc n) (expecting_next (done s c))
-done_bounded t n s (Command.Put a b) q h = next t n (with_parameters (set s.parameters a b) s) (valued t n s (set s.parameters a b) (λ k. set_both Small s.parameters a b 0 k q (h.parameters k)) h)
-done_bounded t n s (Command.Later a) q h =
-    scheduled t n s (s.schedule ++ (a ∷ [])) (omega (arith, length-append s.schedule (a ∷ []))) (λ b m. ⊎_elim (h.schedule b) (λ e. subst SmallActivity (sym e) q) (among_append b a s.schedule m)) h
-done_bounded t n s Command.Forget q h = scheduled t n s [] (omega arith) (λ a m. elim m [ ]) h
-done_bounded t n s Command.Sleep q h = next t n s h
-done_bounded t n s Command.Wake q h = next t n s h
-done_bounded t n s (Command.SetRule k r) q h = next t n (done s (Command.SetRule k r)) (ruled t n s _ _ (λ j. set_both SmallRule s.rules k r off j q (h.rules j)) (λ j. set_both (λ x. x ≤ t) s.counts k 0 0 j (omega arith) (h.counts j)) h)
-done_bounded t n s (Command.Unknown k) q h = next t n s h
+done_bounded t n s c q h = record {
+  time = h.time;
+  expected = omega arith;
+  rejected = omega arith;
+  missed = (let l = schedule_length c s.schedule in omega arith);
+  parameters = λ k. parameters_small c s.parameters k q (h.parameters k);
+  schedule = schedule_small c s.schedule q h.schedule;
+  rules = λ k. rules_small c s.rules k q (h.rules k);
+  counts = λ k. counts_most t c s.counts k (h.counts k);
+}
 
 obeyed_bounded : (ticks n : ℕ) (t : Telecommand) (s : State) → SmallCommand t.command → Bounded ticks n s → Bounded ticks (suc n) (obeyed t s)
 obeyed_bounded ticks n t s q h =

@@ -4,7 +4,7 @@ use Rattle.std.proofs.lemmas.Bool.{eq-eqb, ne_eqb, cond-true, cond-false, true�
 use Rattle.frame.specs.declared.Command.{Command}
 use Rattle.frame.specs.declared.Telecommand.{Telecommand}
 use Rattle.satellite.specs.State.{State}
-use Rattle.satellite.specs.Story.{Inputs, done, obeyed, at_reception}
+use Rattle.satellite.specs.Story.{Inputs, obeyed, at_reception}
 use Rattle.flight.specs.Flight.{after}
 use Rattle.flight.specs.Commanding.{heard, obeyed_with, obeyed_in, first_sent, EachOnce, ComesThrough, SafeAtOnce}
 use Rattle.flight.proofs.Steps.{obeyed_cases, ticked_cases, ticked_heard, reception}
@@ -13,19 +13,9 @@ use Rattle.flight.proofs.Steps.{obeyed_cases, ticked_cases, ticked_heard, recept
 pub expected_kept : (i : Inputs) (s : State) → (at_reception i s).expected ≡ s.expected
 expected_kept i s = (reception i s).expected
 
--- doing a command does not change which one is expected
-pub done_expected : (s : State) (c : Command) → (done s c).expected ≡ s.expected
-done_expected s (Command.Put a b) = refl
-done_expected s (Command.Later a) = refl
-done_expected s Command.Forget = refl
-done_expected s Command.Sleep = refl
-done_expected s Command.Wake = refl
-done_expected s (Command.SetRule k r) = refl
-done_expected s (Command.Unknown k) = refl
-
 -- a command whose turn it is moves the expected number on by one, any other leaves it
 pub obeyed_expected : (t : Telecommand) (s : State) → t.number ≡ s.expected → (obeyed t s).expected ≡ suc s.expected
-obeyed_expected t s e = obeyed_cases t s (λ u. u.expected ≡ suc s.expected) (λ _ _. ap suc (done_expected s t.command)) (λ _ _. refl) (λ f. absurd (f e))
+obeyed_expected t s e = obeyed_cases t s (λ u. u.expected ≡ suc s.expected) (λ _ _. refl) (λ _ _. refl) (λ f. absurd (f e))
 
 pub obeyed_else : (t : Telecommand) (s : State) → (t.number ≡ s.expected → ⊥) → obeyed t s ≡ s
 obeyed_else t s f = obeyed_cases t s (λ u. u ≡ s) (λ e _. absurd (f e)) (λ e _. absurd (f e)) (λ _. refl)
@@ -46,7 +36,7 @@ each_once sent (i ∷ is) g =
     ticked_cases (λ (u : State). obeyed_with (heard i is) s.expected (obeyed_in is) ≡ first_sent sent u.expected) i s
     (λ e. ap (λ (x : Option Telecommand). obeyed_with x s.expected (obeyed_in is)) e ∙ ih ∙ ap (first_sent sent) (sym k))
     (λ t e. obeyed_cases t r (λ (u : State). obeyed_with (heard i is) s.expected (obeyed_in is) ≡ first_sent sent u.expected)
-    (λ d _. turn_with (heard i is) t s.expected (obeyed_in is) e (d ∙ k) ∙ next t e d ih ∙ ap (λ n. first_sent sent (suc n)) (sym (done_expected r t.command)))
+    (λ d _. turn_with (heard i is) t s.expected (obeyed_in is) e (d ∙ k) ∙ next t e d ih)
     (λ d _. turn_with (heard i is) t s.expected (obeyed_in is) e (d ∙ k) ∙ next t e d ih)
     (λ f. else_with (heard i is) t s.expected (obeyed_in is) e (λ d. f (d ∙ sym k)) ∙ ih ∙ ap (first_sent sent) (sym k)))
   where

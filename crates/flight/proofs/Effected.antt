@@ -13,12 +13,12 @@ use Rattle.satellite.specs.Story.{Inputs, begun, looked, watched_one, watched, c
 use Rattle.satellite.proofs.Watching.{watched_rules}
 use Rattle.flight.specs.Flight.{Lawful, after}
 use Rattle.flight.specs.Commanding.{heard, Turn}
-use Rattle.flight.specs.Effects.{Place, CommandsAct, Undoable, put_low, put_high, later_low, later_high, later_past, later_full, rule_none, rule_blind, rule_low, rule_high, no_kind, ElseIgnored, ReadsRight, KeepsSizes, TimeRight, turned_down, rejections, RejectedRight, LaunchesRight}
+use Rattle.flight.specs.Effects.{PutPlace, CommandsAct, Undoable, put_low, put_high, later_low, later_high, later_past, later_full, rule_none, rule_blind, rule_low, rule_high, no_kind, ElseIgnored, ReadsRight, KeepsSizes, TimeRight, turned_down, rejections, RejectedRight, LaunchesRight}
 use Rattle.flight.proofs.Steps.{obeyed_cases, ticked_cases, ticked_heard, one_cases, watched_zero, watched_suc, begun_low, release_is, reception}
 use Rattle.flight.proofs.Waits.{parts, among_due, put_other}
 use Rattle.flight.proofs.Sound.{may_place, RuleOk, RulesSound, Sound, after_sound, after_sized}
 use Rattle.flight.proofs.Fitting.{place_may}
-use Rattle.flight.proofs.Commanded.{expected_kept, done_expected, obeyed_else}
+use Rattle.flight.proofs.Commanded.{expected_kept, obeyed_else}
 
 low_place : (a : ℕ) → a < 16 → may_put a ≡ false
 low_place a l = and_left (leb 16 a) (leb a 63) (lt-leb 16 a l)
@@ -43,13 +43,13 @@ undoable_cannot s c (rule_high k r e l) = and_right (ltb k 16) (may_set r) (blin
 undoable_cannot s c (no_kind k) = refl
 
 -- a command whose turn it is, and that can be done, or not
-its_turn : (i : Inputs) (is : List Inputs) (c : Command) → Turn i is c → can (at_reception i (after is)) c ≡ true → after (i ∷ is) ≡ with_expected (suc (after is).expected) (done (at_reception i (after is)) c)
+pub its_turn : (i : Inputs) (is : List Inputs) (c : Command) → Turn i is c → can (at_reception i (after is)) c ≡ true → after (i ∷ is) ≡ with_expected (suc (after is).expected) (done (at_reception i (after is)) c)
 its_turn i is c e can-do =
     let t : Telecommand = record { number = (after is).expected; command = c } in
     let r = at_reception i (after is) in
     let k = expected_kept i (after is) in
     ticked_heard i (after is) (Some t) e
-    ∙ obeyed_cases t r (λ u. u ≡ with_expected (suc (after is).expected) (done r c)) (λ _ _. ap (λ n. with_expected (suc n) (done r c)) (done_expected r c ∙ k))
+    ∙ obeyed_cases t r (λ u. u ≡ with_expected (suc (after is).expected) (done r c)) (λ _ _. ap (λ n. with_expected (suc n) (done r c)) k)
     (λ _ f. absurd (true≢false (sym can-do ∙ f))) (λ f. absurd (f (sym k)))
 
 not_done : (i : Inputs) (is : List Inputs) (c : Command) → Turn i is c → can (at_reception i (after is)) c ≡ false → after (i ∷ is) ≡ with_expected (suc (after is).expected) (rejecting (at_reception i (after is)))
@@ -61,7 +61,7 @@ not_done i is c e cannot =
     ∙ obeyed_cases t r (λ u. u ≡ with_expected (suc (after is).expected) (rejecting r)) (λ _ f. absurd (true≢false (sym f ∙ cannot)))
     (λ _ _. ap (λ n. with_expected (suc n) (rejecting r)) k) (λ f. absurd (f (sym k)))
 
-can_set : (k : ℕ) (r : Rule) → k < 16 → r.watches ≤ 63 → (r.safes ≡ true) ⊎ Place r.place → (ltb k 16 && may_set r) ≡ true
+can_set : (k : ℕ) (r : Rule) → k < 16 → r.watches ≤ 63 → (r.safes ≡ true) ⊎ PutPlace r.place → (ltb k 16 && may_set r) ≡ true
 can_set k r l w o =
     and_from (ltb k 16) (may_set r) (lt-ltb k 16 l) (and_from (leb r.watches 63) (r.safes || may_put r.place) (le-leb r.watches 63 w)
     (⊎_elim (or_left r.safes (may_put r.place)) (λ p. or_right r.safes (may_put r.place) (place_may r.place p)) o))
@@ -102,12 +102,7 @@ watched_low (suc k) s j l h =
 
 done_low : (s : State) (c : Command) (k : ℕ) → can s c ≡ true → k < 16 → parameter (done s c) k ≡ parameter s k
 done_low s (Command.Put a b) k h l = let p = may_place a h in get_or-set_other s.parameters a k b 0 (λ e. omega arith)
-done_low s (Command.Later a) k h l = refl
-done_low s Command.Forget k h l = refl
-done_low s Command.Sleep k h l = refl
-done_low s Command.Wake k h l = refl
-done_low s (Command.SetRule n r) k h l = refl
-done_low s (Command.Unknown n) k h l = refl
+done_low s _ k h l = refl
 
 reception_low : (i : Inputs) (s : State) (k : ℕ) → Lawful i → Sound s → k < 16 → parameter (at_reception i s) k ≡ get_or i.readings k 0
 reception_low i s k l h lt =
@@ -128,22 +123,12 @@ reads_right i is k l ls h =
 pub keeps_sizes : KeepsSizes
 keeps_sizes = after_sized
 
--- counters that no command changes
-pub done_counters : (s : State) (c : Command) → ((done s c).time ≡ s.time) × ((done s c).rejected ≡ s.rejected) × ((done s c).missed ≡ s.missed)
-done_counters s (Command.Put a b) = (refl, refl, refl)
-done_counters s (Command.Later a) = (refl, refl, refl)
-done_counters s Command.Forget = (refl, refl, refl)
-done_counters s Command.Sleep = (refl, refl, refl)
-done_counters s Command.Wake = (refl, refl, refl)
-done_counters s (Command.SetRule k r) = (refl, refl, refl)
-done_counters s (Command.Unknown k) = (refl, refl, refl)
-
 pub after_time : (i : Inputs) (is : List Inputs) → (after (i ∷ is)).time ≡ suc (after is).time
 after_time i is =
     let r = at_reception i (after is) in
     let e = (reception i (after is)).time in
     ticked_cases (λ (u : State). u.time ≡ suc (after is).time) i (after is) (λ _. e)
-    (λ t _. obeyed_cases t r (λ (u : State). u.time ≡ suc (after is).time) (λ _ _. (done_counters r t.command).0 ∙ e) (λ _ _. e) (λ _. e))
+    (λ t _. obeyed_cases t r (λ (u : State). u.time ≡ suc (after is).time) (λ _ _. e) (λ _ _. e) (λ _. e))
 
 pub time_right : TimeRight
 time_right [] = refl
@@ -159,7 +144,7 @@ rejected_right (i ∷ is) =
     ticked_cases (λ (u : State). u.rejected ≡ rejections is + turned_down (heard i is) r) i (after is)
     (λ e. k ∙ none None e refl)
     (λ t e. obeyed_cases t r (λ (u : State). u.rejected ≡ rejections is + turned_down (heard i is) r)
-    (λ d c. (done_counters r t.command).1 ∙ k ∙ none (Some t) e (cond-false (eqb t.number r.expected && not (can r t.command)) 1 0 (and_right (eqb t.number r.expected) (not (can r t.command)) (not_from_true (can r t.command) c))))
+    (λ d c. k ∙ none (Some t) e (cond-false (eqb t.number r.expected && not (can r t.command)) 1 0 (and_right (eqb t.number r.expected) (not (can r t.command)) (not_from_true (can r t.command) c))))
     (λ d c. ap suc k ∙ sym (add-one (rejections is)) ∙ ap (λ n. rejections is + n) (sym (cond-true (eqb t.number r.expected && not (can r t.command)) 1 0 (and_from (eqb t.number r.expected) (not (can r t.command)) (eq-eqb t.number r.expected d) (not_from_false (can r t.command) c)))) ∙ ap (λ (x : Option Telecommand). rejections is + turned_down x r) (sym e))
     (λ f. k ∙ none (Some t) e (cond-false (eqb t.number r.expected && not (can r t.command)) 1 0 (and_left (eqb t.number r.expected) (not (can r t.command)) (ne_eqb t.number r.expected f)))))
 

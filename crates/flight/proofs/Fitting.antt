@@ -1,8 +1,6 @@
 -- What a flight leaves is not refused.
 use Rattle.std.proofs.Common.{◌≡◌, ℕ, zero, suc, ◌+◌, ◌*◌, ◌<◌, ◌≤◌, Bool, true, false, eqb, leb, List, [], ◌∷◌, length, get_or, sym, refl, ap, ◌∙◌, subst, inl, inr, ⊎_elim, arith}
 use Rattle.std.proofs.lemmas.Bool.{le-leb, and_from}
-use Rattle.memory.specs.Threefold.{voted_words, threefold}
-use Rattle.memory.proofs.Mending.{votes_mend}
 use Rattle.schedule.specs.declared.activity.Activity.{Activity}
 use Rattle.schedule.specs.Waiting.{no_activity}
 use Rattle.std.specs.List.{flat_map}
@@ -15,17 +13,18 @@ use Rattle.layout.specs.Map.{word_count, bit, activity_words, rule_words, words_
 use Rattle.layout.specs.Fault.{Faultless, Sane}
 use Rattle.layout.proofs.Places.{head_word, waiting_word, activity_word, rule_word}
 use Rattle.layout.proofs.Sanity.{faultless_of}
-use Rattle.flight.specs.Flight.{machine, after, NeverRefused}
-use Rattle.flight.specs.Effects.{Place}
+use Rattle.layout.proofs.Tidiness.{tidy_right}
+use Rattle.flight.specs.Flight.{keeper, machine, after, NeverRefused}
+use Rattle.flight.specs.Effects.{PutPlace}
 use Rattle.flight.specs.Scheduling.{Among, here, there}
 use Rattle.flight.proofs.Waits.{among_at}
 use Rattle.layout.proofs.Joined.{all_words, each_flat, each_nought, each_behind}
 use Rattle.flight.proofs.Sound.{Sound, after_sound, after_sized}
 use Rattle.flight.proofs.Received.{Small, SmallRule, SmallActivity}
 use Rattle.flight.proofs.Bounds.{Bounded, after_bounded}
-use Rattle.flight.proofs.Flying.{all_lawful, flies_right}
+use Rattle.flight.proofs.Flying.{all_lawful, keeps, flies_right}
 
-pub place_may : (a : ℕ) → Place a → may_put a ≡ true
+pub place_may : (a : ℕ) → PutPlace a → may_put a ≡ true
 place_may a p = and_from (leb 16 a) (leb a 63) (le-leb 16 a p.0) (le-leb a 63 p.1)
 
 bit_small : (b : Bool) → Small (bit b)
@@ -72,13 +71,23 @@ words_most : (n : ℕ) (s : State) → n < most → Sized s → Bounded n n s �
 unfolding words_of
 words_most n s l z b =
     all_words (λ x. x ≤ most) (parts s) (omega arith) (
-      head_most n s l b, (
-      λ k. (let p = b.parameters k in omega arith), (
-      λ k. waiting_most (length s.schedule) k z.schedule, (
-      each_behind (λ x. x ≤ most) (flat_map activity_words s.schedule) _ (each_flat (λ x. x ≤ most) activity_words s.schedule no_activity (omega arith) (λ i j. let p = activity_small (get_or s.schedule i no_activity) j (each_activity s.schedule b.schedule i) in omega arith)) (each_nought (λ x. x ≤ most) _ (omega arith)), (
-      each_flat (λ x. x ≤ most) rule_words s.rules off (omega arith) (λ i j. let p = rule_small (rule s i) j (b.rules i) in omega arith), (
-      λ k. (let p = b.counts k in omega arith),
-      tt)))))
+      head_most n s l b,
+      (
+        λ k. (let p = b.parameters k in omega arith),
+        (
+          λ k. waiting_most (length s.schedule) k z.schedule,
+          (
+            each_behind (λ x. x ≤ most) (flat_map activity_words s.schedule) _ (each_flat (λ x. x ≤ most) activity_words s.schedule no_activity (omega arith) (λ i j. let p = activity_small (get_or s.schedule i no_activity) j (each_activity s.schedule b.schedule i) in omega arith)) (each_nought (λ x. x ≤ most) _ (omega arith)),
+            (
+              each_flat (λ x. x ≤ most) rule_words s.rules off (omega arith) (λ i j. let p = rule_small (rule s i) j (b.rules i) in omega arith),
+              (
+                λ k. (let p = b.counts k in omega arith),
+                tt,
+              ),
+            ),
+          ),
+        ),
+      ),
     )
 
 -- a word of an activity or a rule, by its name
@@ -112,6 +121,8 @@ sane n s l z h b =
 
 pub never_refused : NeverRefused
 never_refused is kept found flown upset short =
-    let lawful = all_lawful (threefold word_count) machine is kept flown in
-    let e : voted_words word_count found ≡ words_of (after is) = votes_mend word_count kept found (words_of (after is)) (flies_right.holds is kept flown) upset in
-    subst Faultless (sym e) (faultless_of (words_of (after is)) (sane (length is) (after is) short (after_sized is lawful) (after_sound is lawful) (after_bounded is lawful)))
+    let lawful = all_lawful keeper machine is kept flown in
+    let left = flies_right.holds is kept flown in
+    let sized = after_sized is lawful in
+    let written = faultless_of (words_of (after is)) (sane (length is) (after is) short sized (after_sound is lawful) (after_bounded is lawful)) in
+    subst Faultless (sym (keeps.mends kept found left.words left.holds upset)) (tidy_right.faultless left.words (after is) sized left.tells written)

@@ -1,45 +1,54 @@
 -- Every flight of every machine over every keeper that mends, and then the satellite's.
-use Rattle.std.proofs.Common.{◌≡◌, List, ◌∷◌, length, sym, refl, ap, ◌∙◌, subst}
-use Rattle.memory.specs.Keeper.{Keeper, Mends}
-use Rattle.memory.specs.Threefold.{voted_words, thrice, Holds, threefold}
-use Rattle.memory.proofs.Mending.{votes_mend}
-use Rattle.layout.specs.Map.{word_count, words_of, state_of}
-use Rattle.layout.proofs.Back.{reads_back}
+use Rattle.std.proofs.Common.{◌≡◌, ℕ, List, [], ◌∷◌, sym, ap, ◌∙◌, subst}
+use Rattle.memory.specs.Keeper.{Keeper, Mends, Keeps}
+use Rattle.memory.proofs.Mending.{keeps_words}
+use Rattle.layout.specs.Map.{word_count, words_of, state_of, Tells}
+use Rattle.layout.proofs.Places.{length_words}
+use Rattle.layout.proofs.Tidiness.{tidy_right}
+use Rattle.satellite.specs.State.{at_launch}
 use Rattle.satellite.specs.Story.{Inputs}
 use Rattle.satellite.specs.Story as satellite
-use Rattle.flight.specs.Machine.{Machine, story, AllLawful, none, more, Returns, Flown, launched, ticked, AlwaysFlies}
-use Rattle.flight.specs.Flight.{machine, after, FliesRight, CarriesOn}
+use Rattle.flight.specs.Machine.{Machine, story, AllLawful, none, more, Returns, Flown, launched, ticked, Left, AlwaysFlies}
+use Rattle.flight.specs.Flight.{keeper, machine, after, Flew, FliesRight, CarriesOn}
 use Rattle.flight.proofs.Sound.{after_sized}
 
-pub all_lawful : (K : Keeper) (M : Machine) (is : List M.Input) (kept : K.Memory) → Flown K M is kept → AllLawful M is
-all_lawful K M is kept (launched left holds) = none
-all_lawful K M is kept (ticked i js m found left flown upset lawful holds) = more i js lawful (all_lawful K M js m flown)
+pub all_lawful : (K : Keeper) (M : Machine) (is : List M.Input) (kept : List ℕ) → Flown K M is kept → AllLawful M is
+all_lawful K M is kept (launched words left tells holds) = none
+all_lawful K M is kept (ticked i js m found words left flown upset lawful tells holds) = more i js lawful (all_lawful K M js m flown)
 
-holds_story : (K : Keeper) (M : Machine) → Mends K → Returns M → (is : List M.Input) (kept : K.Memory) → Flown K M is kept → K.Holds kept (M.words (story M is))
-holds_story K M mends returns is kept (launched left holds) = holds
-holds_story K M mends returns is kept (ticked i js m found left flown upset lawful holds) =
-    let read : K.read found ≡ M.words (story M js) = mends m found (M.words (story M js)) (holds_story K M mends returns js m flown) upset in
-    let state : M.state (K.read found) ≡ story M js = ap M.state read ∙ returns js (all_lawful K M js m flown) in
-    subst (λ s. K.Holds left (M.words (M.step i s))) state holds
+left_story : (K : Keeper) (M : Machine) → Mends K → Returns M → (is : List M.Input) (kept : List ℕ) → Flown K M is kept → Left K M kept (story M is)
+left_story K M mends returns is kept (launched words left tells holds) = record { words = words; tells = tells; holds = holds }
+left_story K M mends returns is kept (ticked i js m found words left flown upset lawful tells holds) =
+    let before = left_story K M mends returns js m flown in
+    let state : M.state (K.read found) ≡ story M js = ap M.state (mends m found before.words before.holds upset) ∙ returns before.words (story M js) before.tells in
+    record { words = words; tells = subst (λ s. M.Tells words (M.step i s)) state tells; holds = holds }
 
 pub always_flies : AlwaysFlies
 always_flies K M mends returns = record {
-  reads = λ is kept found flown upset. ap M.state (mends kept found (M.words (story M is)) (holds_story K M mends returns is kept flown) upset) ∙ returns is (all_lawful K M is kept flown);
-  holds = holds_story K M mends returns;
+  reads = λ is kept found flown upset.
+      let left = left_story K M mends returns is kept flown in
+      ap M.state (mends kept found left.words left.holds upset) ∙ returns left.words (story M is) left.tells;
+  holds = left_story K M mends returns;
 }
 
-returns_machine : Returns machine
-returns_machine is lawful = (reads_back (after is) (after_sized is lawful)).1
+-- the laws of the satellite's keeper
+pub keeps : Keeps word_count keeper
+keeps = keeps_words word_count
 
 pub flies_right : FliesRight
-flies_right = always_flies (threefold word_count) machine (votes_mend word_count) returns_machine
+flies_right = always_flies keeper machine keeps.mends (λ words s tells. tells.says)
+
+-- what is stored for a state that has its room in memory
+pub stored : (is : List Inputs) → AllLawful machine is → Left keeper machine (keeper.stored (words_of (after is))) (after is)
+stored is lawful =
+    let sized = after_sized is lawful in
+    record { words = words_of (after is); tells = tidy_right.written (after is) sized; holds = keeps.stores (words_of (after is)) (length_words (after is) sized) }
+
+pub launch_flies : Flew [] (keeper.stored (words_of at_launch))
+launch_flies = let s = stored [] none in launched s.words (keeper.stored (words_of at_launch)) s.tells s.holds
 
 pub carries_on : CarriesOn
 carries_on i is kept found flown upset lawful =
-    let e : state_of (voted_words word_count found) ≡ after is = flies_right.reads is kept found flown upset in
-    let t : satellite.ticked i (state_of (voted_words word_count found)) ≡ after (i ∷ is) = ap (satellite.ticked i) e in
-    let sized : length (words_of (after (i ∷ is))) ≡ word_count = (reads_back (after (i ∷ is)) (after_sized (i ∷ is) (more i is lawful (all_lawful (threefold word_count) machine is kept flown)))).0 in (
-      t,
-      ticked i is kept found (thrice (words_of (after (i ∷ is)))) flown upset lawful
-          (subst (λ s. Holds word_count (thrice (words_of (after (i ∷ is)))) (words_of s)) (sym t) (sized, refl)),
-    )
+    let t : satellite.ticked i (state_of (keeper.read found)) ≡ after (i ∷ is) = ap (satellite.ticked i) (flies_right.reads is kept found flown upset) in
+    let s = stored (i ∷ is) (more i is lawful (all_lawful keeper machine is kept flown)) in
+    (t, ticked i is kept found s.words (keeper.stored (words_of (after (i ∷ is)))) flown upset lawful (subst (Tells s.words) (sym t) s.tells) s.holds)

@@ -9,3 +9,8 @@ pub mod Commanded
 pub mod Effected
 pub mod Scheduled
 pub mod Protected
+pub mod Keeping
+pub mod SafeMode
+pub mod Releasing
+pub mod Fates
+pub mod EveryFlight

@@ -11,12 +11,11 @@ use Rattle.satellite.proofs.Watching.{one_rules, watched_rules, count_before}
 use Rattle.flight.specs.Machine.{AllLawful, more}
 use Rattle.flight.specs.Flight.{machine, after}
 use Rattle.flight.specs.Commanding.{Turn}
-use Rattle.flight.specs.Protecting.{PastRight, at_look, seen, Unset, CountsRight, InstrumentsRight, BeginsAnew, Acting, ActsJustThen, SafeByRules, RulesPut, ElseUntouched}
+use Rattle.flight.specs.Protecting.{PastRight, at_look, seen, Unset, CountsRight, InstrumentsRight, BeginsAnew, Acting, ActsJustThen, SafeByRules, RulesPut, ElseUntouched, LooksRight}
 use Rattle.flight.proofs.Steps.{obeyed_cases, ticked_cases, one_cases, watched_zero, watched_suc, begun_low, begun_high, release_is, reception}
-use Rattle.flight.proofs.Sound.{RuleOk, after_sound, reception_sound, watched_sizes, release_sizes}
+use Rattle.flight.proofs.Sound.{RuleOk, after_sound, reception_sound, watched_sizes, begun_size}
 use Rattle.flight.proofs.Commanded.{expected_kept}
 use Rattle.flight.proofs.Effected.{commands_act, watched_low}
-use Rattle.flight.proofs.Scheduled.{else_kept}
 
 past_upward : (r : Rule) (v : ℕ) → r.upward ≡ true → is_past r v ≡ leb r.limit v
 past_upward r v e = cond-true r.upward (leb r.limit v) (leb v r.limit) e
@@ -62,13 +61,8 @@ abbrev About : ℕ → State → State → Type 0
 About k s u = (rule u k ≡ rule s k) × (count u k ≡ count s k)
 
 done_about : (s : State) (c : Command) (k : ℕ) → ((r : Rule) → c ≡ Command.SetRule k r → ⊥) → About k s (done s c)
-done_about s (Command.Put a b) k f = (refl, refl)
-done_about s (Command.Later a) k f = (refl, refl)
-done_about s Command.Forget k f = (refl, refl)
-done_about s Command.Sleep k f = (refl, refl)
-done_about s Command.Wake k f = (refl, refl)
 done_about s (Command.SetRule j r) k f = let n : k ≡ j → ⊥ = λ e. f r (ap (λ m. Command.SetRule m r) (sym e)) in (get_or-set_other s.rules j k r off n, get_or-set_other s.counts j k 0 0 n)
-done_about s (Command.Unknown n) k f = (refl, refl)
+done_about s _ k f = (refl, refl)
 
 after_about : (i : Inputs) (is : List Inputs) (k : ℕ) → ((r : Rule) → Turn i is (Command.SetRule k r) → ⊥) → About k (at_reception i (after is)) (after (i ∷ is))
 after_about i is k f =
@@ -213,23 +207,28 @@ value_last (suc n) s k p l z pl f g h =
         (λ _ _. (λ j. get_or (set t.parameters (at j) (q j).number) p 0) ∙ get_or-set_same t.parameters p (rule s k).number 0 (omega arith)) (λ x. absurd (true≢false (sym f ∙ x)))
 
 pub else_untouched : ElseUntouched
-else_untouched i is p (more j js l ls) h f n =
+else_untouched i is k p (more j js l ls) lk h f =
     let b = begun i.readings (after is) in
-    else_kept i is p n ∙ ap (λ (u : State). parameter u p) (release_is i (after is))
-    ∙ value_else 16 b p (λ k lt x g e. f k (record { acting = fires_acting i is k ls lt x; puts = g; there = e })) ∙ begun_high i (after is) p l h
+    value_else k b p (λ n lt x g e. f n lt (record { acting = fires_acting i is n ls (omega arith) x; puts = g; there = e })) ∙ begun_high i (after is) p l h
 
 acting_place : (r : Rule) → RuleOk r → 1 ≤ r.needs → r.safes ≡ false → r.place ≤ 63
 acting_place r o n e = ⊎_elim {C = r.place ≤ 63} (λ z. absurd (omega arith)) (⊎_elim {C = r.place ≤ 63} (λ t. absurd (true≢false (sym t ∙ e))) (λ p. p.1)) o.puts
 
 pub rules_put : RulesPut
-rules_put i is k p (more j js l ls) a h n =
+rules_put i is k n p (more j js l ls) lk lt a h =
     let b = begun i.readings (after is) in
     let so = after_sound is ls in
-    let z = (release_sizes i (after is) l so.2).0 in
-    let y = (watched_sizes 16 b).0 in
-    let v = ap (λ (u : State). length u.parameters) (release_is i (after is)) in
-    let fits = acting_place (rule (after is) k) (so.1 k) a.acting.on a.puts in
+    let z = begun_size i (after is) l so.2 in
+    let fits = acting_place (rule (after is) n) (so.1 n) a.acting.on a.puts in
     let pl = a.there in
-    else_kept i is p n ∙ ap (λ (u : State). parameter u p) (release_is i (after is))
-    ∙ value_last 16 b k p a.acting.below (omega arith) pl (acting_fires i is k ls a.acting) a.puts
-    (λ m lt mt x g e. h m lt (record { acting = fires_acting i is m ls mt x; puts = g; there = e }))
+    value_last k b n p lt (omega arith) pl (acting_fires i is n ls a.acting) a.puts
+    (λ m x y f g e. h m x y (record { acting = fires_acting i is m ls (omega arith) f; puts = g; there = e }))
+
+read_at_look : (i : Inputs) (is : List Inputs) (k p : ℕ) → AllLawful machine (i ∷ is) → p < 16 → parameter (at_look k i is) p ≡ get_or i.readings p 0
+read_at_look i is k p (more j js l ls) lt = watched_low k (begun i.readings (after is)) p lt (after_sound is ls).1 ∙ begun_low i (after is) p l lt
+
+pub looks_right : LooksRight
+looks_right = record {
+  reads = λ i is k p l lk lt. read_at_look i is k p l lt;
+  release = λ i is. release_is i (after is);
+}

@@ -4,6 +4,7 @@ use Rattle.std.proofs.lemmas.Bool.{and_parts, cases_lt, cond_both}
 use Rattle.std.proofs.lemmas.List.{get_or_past}
 use Rattle.schedule.specs.declared.activity.Activity.{Activity}
 use Rattle.rules.specs.declared.rule.Rule.{Rule}
+use Rattle.schedule.specs.Numbers.{activity_from}
 use Rattle.rules.specs.Numbers.{rule_from}
 use Rattle.frame.specs.declared.Command.{Command}
 use Rattle.frame.specs.declared.Telecommand.{Telecommand}
@@ -30,11 +31,8 @@ pub record SmallActivity (a : Activity) : Type 0 where
 abbrev pub SmallCommand : Command → Type 0
 SmallCommand (Command.Put place number) = Small number
 SmallCommand (Command.Later a) = SmallActivity a
-SmallCommand Command.Forget = Unit {0}
-SmallCommand Command.Sleep = Unit {0}
-SmallCommand Command.Wake = Unit {0}
 SmallCommand (Command.SetRule k r) = SmallRule r
-SmallCommand (Command.Unknown kind) = Unit {0}
+SmallCommand _ = Unit {0}
 
 small_at : (f : List ℕ) → all_small f ≡ true → (k : ℕ) → Small (get_or f k 0)
 small_at f s k = ⊎_elim (λ (l : k < length f). each_small f s k l) (λ (l : length f ≤ k). rw (get_or_past f k 0 l) (omega arith)) (cases_lt k (length f))
@@ -42,15 +40,18 @@ small_at f s k = ⊎_elim (λ (l : k < length f). each_small f s k l) (λ (l : l
 either : (b : Bool) (x y : Command) → SmallCommand x → SmallCommand y → SmallCommand (cond b x y)
 either b x y p q = cond_both b x y SmallCommand (λ _. p) (λ _. q)
 
+-- a line for each kind
 command_small : (f : List ℕ) → all_small f ≡ true → SmallCommand (command_of f)
 command_small f s =
+    let k = get_or f 1 0 in
     let g = small_at f s in
-    either (eqb (get_or f 1 0) 0) (Command.Put (get_or f 2 0) (get_or f 3 0)) _ (g 3)
-    (either (eqb (get_or f 1 0) 1) (Command.Later (record { release = get_or f 2 0; place = get_or f 3 0; number = get_or f 4 0 })) _ (record { release = g 2; place = g 3; number = g 4 })
-    (either (eqb (get_or f 1 0) 2) Command.Forget _ tt
-    (either (eqb (get_or f 1 0) 3) Command.Sleep _ tt
-    (either (eqb (get_or f 1 0) 4) Command.Wake _ tt
-    (either (eqb (get_or f 1 0) 5) (Command.SetRule (get_or f 2 0) (rule_from (λ j. get_or f (3 + j) 0))) (Command.Unknown (get_or f 1 0)) (record { watches = g 3; limit = g 4; needs = g 6; place = g 8; number = g 9 }) tt)))))
+    either (eqb k 0) (Command.Put (get_or f 2 0) (get_or f 3 0)) _ (g 3)
+    (either (eqb k 1) (Command.Later (activity_from (λ j. get_or f (2 + j) 0))) _ (record { release = g 2; place = g 3; number = g 4 })
+    (either (eqb k 2) Command.Forget _ tt
+    (either (eqb k 3) Command.Sleep _ tt
+    (either (eqb k 4) Command.Wake _ tt
+    (either (eqb k 5) (Command.SetRule (get_or f 2 0) (rule_from (λ j. get_or f (3 + j) 0))) (Command.Unknown k) (record { watches = g 3; limit = g 4; needs = g 6; place = g 8; number = g 9 })
+    tt)))))
 
 pub decoded_small : (f : List ℕ) (t : Telecommand) → decoded f ≡ Some t → SmallCommand t.command
 decoded_small f t e =

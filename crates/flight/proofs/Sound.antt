@@ -10,26 +10,26 @@ use Rattle.frame.specs.declared.Command.{Command}
 use Rattle.frame.specs.declared.Telecommand.{Telecommand}
 use Rattle.parameters.specs.Places.{may_put}
 use Rattle.satellite.specs.State.{State, rule}
-use Rattle.satellite.specs.Story.{Inputs, begun, looked, watched_one, watched, can, done, obeyed, at_release, at_reception}
+use Rattle.satellite.specs.Story.{Inputs, begun, looked, watched_one, watched, can, parameters_by, schedule_by, rules_by, counts_by, done, obeyed, at_release, at_reception, ticked}
 use Rattle.layout.specs.Map.{Sized}
 use Rattle.flight.specs.Machine.{AllLawful, more}
 use Rattle.flight.specs.Flight.{Lawful, machine, after}
-use Rattle.flight.specs.Effects.{Place}
+use Rattle.flight.specs.Effects.{PutPlace}
 use Rattle.flight.specs.Scheduling.{Among}
 use Rattle.flight.proofs.Steps.{obeyed_cases, ticked_cases, one_cases, watched_zero, watched_suc, release_is, reception}
 use Rattle.flight.proofs.Waits.{among_append, parts, among_still, parts_length, put_length}
 
-pub may_place : (i : ℕ) → may_put i ≡ true → Place i
+pub may_place : (i : ℕ) → may_put i ≡ true → PutPlace i
 may_place i e = let p = and_parts (leb 16 i) (leb i 63) e in (leb-true 16 i p.0, leb-true i 63 p.1)
 
 pub record RuleOk (r : Rule) : Type 0 where
   pub watches : r.watches ≤ 63
-  pub puts : (r.needs ≡ 0) ⊎ ((r.safes ≡ true) ⊎ Place r.place)
+  pub puts : (r.needs ≡ 0) ⊎ ((r.safes ≡ true) ⊎ PutPlace r.place)
 
 -- of activities at a time; of rules; how long lists are
 pub record WaitsSound (t : ℕ) (xs : List Activity) : Type 0 where
   pub later : (a : Activity) → Among a xs → t < a.release
-  pub places : (a : Activity) → Among a xs → Place a.place
+  pub places : (a : Activity) → Among a xs → PutPlace a.place
   pub few : length xs ≤ 32
 
 abbrev pub RulesSound : List Rule → Type 0
@@ -66,7 +66,7 @@ watched_sizes (suc k) s =
     let q = watched_sizes k s in
     subst (SameSizes s) (sym (watched_suc k s)) (p.0 ∙ q.0, p.1 ∙ q.1)
 
-begun_size : (i : Inputs) (s : State) → Lawful i → length s.parameters ≡ 64 → length (begun i.readings s).parameters ≡ 64
+pub begun_size : (i : Inputs) (s : State) → Lawful i → length s.parameters ≡ 64 → length (begun i.readings s).parameters ≡ 64
 begun_size i s l e = length-append i.readings (drop 16 s.parameters) ∙ simp length-drop (let a = l.readings in omega arith)
 
 pub release_sizes : (i : Inputs) (s : State) → Lawful i → length s.parameters ≡ 64 → (length (at_release i s).parameters ≡ 64) × (length (at_release i s).counts ≡ length s.counts)
@@ -108,40 +108,61 @@ rule_ok r e =
     let p = and_parts (leb r.watches 63) (r.safes || may_put r.place) e in
     record { watches = leb-true r.watches 63 p.0; puts = inr (⊎_elim inl (λ d. inr (may_place r.place d)) (or_cases r.safes (may_put r.place) p.1)) }
 
-later_sound : (t : ℕ) (xs : List Activity) (x : Activity) → t < x.release → Place x.place → length xs < 32 → WaitsSound t xs → WaitsSound t (xs ++ (x ∷ []))
+later_sound : (t : ℕ) (xs : List Activity) (x : Activity) → t < x.release → PutPlace x.place → length xs < 32 → WaitsSound t xs → WaitsSound t (xs ++ (x ∷ []))
 later_sound t xs x l p n h = record {
   later = λ a m. ⊎_elim (h.later a) (λ d. subst (λ (y : Activity). t < y.release) (sym d) l) (among_append a x xs m);
-  places = λ a m. ⊎_elim (h.places a) (λ d. subst (λ (y : Activity). Place y.place) (sym d) p) (among_append a x xs m);
+  places = λ a m. ⊎_elim (h.places a) (λ d. subst (λ (y : Activity). PutPlace y.place) (sym d) p) (among_append a x xs m);
   few = rw (length-append xs (x ∷ [])) (omega arith);
 }
 
 set_sound : (rs : List Rule) (k : ℕ) (r : Rule) → k < length rs → RuleOk r → RulesSound rs → RulesSound (set rs k r)
 set_sound rs k r l o h j = ⊎_elim (λ (e : j ≡ k). rw (e, get_or-set_same rs k r off l) o) (λ n. rw (get_or-set_other rs k j r off n) (h j)) (cases_eq j k)
 
-done_sound : (s : State) (c : Command) → can s c ≡ true → Sound s → Sound (done s c)
-done_sound s (Command.Put a b) e h = (h.0, h.1, length-set s.parameters a b ∙ h.2, h.3, h.4)
-done_sound s (Command.Later a) e h =
+-- what a command that can be done makes of each part
+schedule_sound : (s : State) (c : Command) → can s c ≡ true → WaitsSound s.time s.schedule → WaitsSound s.time (schedule_by c s.schedule)
+schedule_sound s (Command.Later a) e h =
     let p = and_parts (may_put a.place) (ltb s.time a.release && ltb (length s.schedule) 32) e in
     let q = and_parts (ltb s.time a.release) (ltb (length s.schedule) 32) p.1 in
-    (later_sound s.time s.schedule a (ltb-true s.time a.release q.0) (may_place a.place p.0) (ltb-true (length s.schedule) 32 q.1) h.0, h.1, h.2, h.3, h.4)
-done_sound s Command.Forget e h = (no_waits s.time, h.1, h.2, h.3, h.4)
-done_sound s Command.Sleep e h = h
-done_sound s Command.Wake e h = h
-done_sound s (Command.SetRule k r) e h =
+    later_sound s.time s.schedule a (ltb-true s.time a.release q.0) (may_place a.place p.0) (ltb-true (length s.schedule) 32 q.1) h
+schedule_sound s Command.Forget e h = no_waits s.time
+schedule_sound s _ e h = h
+
+rules_sound : (s : State) (c : Command) → can s c ≡ true → Long 16 s.rules → RulesSound s.rules → RulesSound (rules_by c s.rules)
+rules_sound s (Command.SetRule k r) e z h =
     let p = and_parts (ltb k 16) (may_set r) e in
     let l = ltb-true k 16 p.0 in
-    let z = h.3 in
-    (h.0, set_sound s.rules k r (omega arith) (rule_ok r p.1) h.1, h.2, length-set s.rules k r ∙ h.3, length-set s.counts k 0 ∙ h.4)
-done_sound s (Command.Unknown n) e h = h
+    set_sound s.rules k r (omega arith) (rule_ok r p.1) h
+rules_sound s _ e z h = h
+
+parameters_long : (c : Command) (xs : List ℕ) → length (parameters_by c xs) ≡ length xs
+parameters_long (Command.Put a b) xs = length-set xs a b
+parameters_long _ xs = refl
+
+rules_long : (c : Command) (rs : List Rule) → length (rules_by c rs) ≡ length rs
+rules_long (Command.SetRule k r) rs = length-set rs k r
+rules_long _ rs = refl
+
+counts_long : (c : Command) (ns : List ℕ) → length (counts_by c ns) ≡ length ns
+counts_long (Command.SetRule k r) ns = length-set ns k 0
+counts_long _ ns = refl
+
+done_sound : (s : State) (c : Command) → can s c ≡ true → Sound s → Sound (done s c)
+done_sound s c e h = (schedule_sound s c e h.0, rules_sound s c e h.3 h.1, parameters_long c s.parameters ∙ h.2, rules_long c s.rules ∙ h.3, counts_long c s.counts ∙ h.4)
 
 obeyed_sound : (t : Telecommand) (s : State) → Sound s → Sound (obeyed t s)
 obeyed_sound t s h = obeyed_cases t s Sound (λ _ e. done_sound s t.command e h) (λ _ _. h) (λ _. h)
 
+pub ticked_sound : (i : Inputs) (s : State) → Lawful i → Sound s → Sound (ticked i s)
+ticked_sound i s l h =
+    let r = reception_sound i s l h in
+    ticked_cases Sound i s (λ _. r) (λ t _. obeyed_sound t (at_reception i s) r)
+
 pub after_sound : (is : List Inputs) → AllLawful machine is → Sound (after is)
 after_sound [] l = (no_waits 0, all_off 16, refl, refl, refl)
-after_sound (i ∷ is) (more j js l ls) =
-    let h = reception_sound i (after is) l (after_sound is ls) in
-    ticked_cases Sound i (after is) (λ _. h) (λ t _. obeyed_sound t (at_reception i (after is)) h)
+after_sound (i ∷ is) (more j js l ls) = ticked_sound i (after is) l (after_sound is ls)
+
+pub sound_sized : (s : State) → Sound s → Sized s
+sound_sized s h = record { parameters = h.2; schedule = h.0.few; rules = h.3; counts = h.4 }
 
 pub after_sized : (is : List Inputs) → AllLawful machine is → Sized (after is)
-after_sized is l = let h = after_sound is l in record { parameters = h.2; schedule = h.0.few; rules = h.3; counts = h.4 }
+after_sized is l = sound_sized (after is) (after_sound is l)

@@ -8,7 +8,7 @@ use Rattle.schedule.specs.Waiting.{due, still_waiting, fate_of, fated, is_waitin
 use Rattle.rules.specs.Watching.{acts}
 use Rattle.frame.specs.declared.Telecommand.{Telecommand}
 use Rattle.satellite.specs.State.{State, with_time, with_safe_mode, with_parameters, with_counts, parameter, rule}
-use Rattle.satellite.specs.Story.{Inputs, begun, looked, counted, acted, watched_one, watched, can, done, rejecting, expecting_next, obeyed, received, heeded, at_release, at_reception, ticked}
+use Rattle.satellite.specs.Story.{Inputs, begun, looked, counted, acted, watched_one, watched, can, done, rejecting, expecting_next, obeyed, received, heeded, released, at_release, at_reception, ticked}
 use Rattle.satellite.proofs.Watching.{watched_kept}
 use Rattle.flight.specs.Flight.{Lawful}
 use Rattle.flight.specs.Effects.{TickKeeps}
@@ -74,6 +74,10 @@ pub release_is : (i : Inputs) (s : State) → at_release i s ≡ watched 16 (beg
 unfolding at_release
 release_is i s = refl
 
+pub reception_is : (i : Inputs) (s : State) → at_reception i s ≡ released (at_release i s)
+unfolding at_reception
+reception_is i s = refl
+
 pub release_kept : (i : Inputs) (s : State)
     → at_release i s ≡ with_safe_mode (at_release i s).safe_mode (with_parameters (at_release i s).parameters (with_counts (at_release i s).counts (with_time (suc s.time) s)))
 unfolding at_release
@@ -130,6 +134,16 @@ pub put_cond : (b : Bool) (xs : List Activity) (values : List ℕ) → put_all (
 put_cond true xs values = refl
 put_cond false xs values = refl
 
+-- what the release of activities leaves of any state
+pub released_missed : (s : State) → (released s).missed ≡ s.missed + cond s.safe_mode (length (due s.time s.schedule)) 0
+released_missed s = ap (λ n. s.missed + n) (ap length (missed_are s.time s.safe_mode s.schedule) ∙ cond_length s.safe_mode _)
+
+pub released_parameters : (s : State) → (released s).parameters ≡ cond s.safe_mode s.parameters (put_all (due s.time s.schedule) s.parameters)
+released_parameters s = ap (λ (x : List Activity). put_all x s.parameters) (done_are s.time s.safe_mode s.schedule) ∙ put_cond s.safe_mode _ s.parameters
+
+pub released_schedule : (s : State) → (released s).schedule ≡ still_waiting s.time s.schedule
+released_schedule s = waiting_are s.time s.safe_mode s.schedule
+
 pub record Reception (i : Inputs) (s : State) : Type 0 where
   pub time : (at_reception i s).time ≡ suc s.time
   pub expected : (at_reception i s).expected ≡ s.expected
@@ -153,9 +167,9 @@ reception i s =
       rules = ap (λ (u : State). u.rules) k;
       safe_mode = refl;
       counts = refl;
-      schedule = waiting_are w.time w.safe_mode w.schedule ∙ ap (λ (u : State). still_waiting u.time u.schedule) k;
-      missed = ap (λ n. w.missed + n) (ap length (missed_are w.time w.safe_mode w.schedule) ∙ cond_length w.safe_mode _) ∙ ap (λ (u : State). u.missed + cond w.safe_mode (length (due u.time u.schedule)) 0) k;
-      parameters = ap (λ (x : List Activity). put_all x w.parameters) (done_are w.time w.safe_mode w.schedule) ∙ put_cond w.safe_mode _ w.parameters ∙ ap (λ (u : State). cond w.safe_mode w.parameters (put_all (due u.time u.schedule) w.parameters)) k;
+      schedule = released_schedule w ∙ ap (λ (u : State). still_waiting u.time u.schedule) k;
+      missed = released_missed w ∙ ap (λ (u : State). u.missed + cond w.safe_mode (length (due u.time u.schedule)) 0) k;
+      parameters = released_parameters w ∙ ap (λ (u : State). cond w.safe_mode w.parameters (put_all (due u.time u.schedule) w.parameters)) k;
     }
 
 pub tick_keeps : TickKeeps

@@ -1,10 +1,10 @@
 -- Lists of activities: which are among them, how they part, and what the due ones put.
-use Rattle.std.proofs.Common.{◌≡◌, ℕ, zero, suc, ◌+◌, ◌<◌, Bool, true, false, cond, eqb, ◌⊎◌, List, [], ◌∷◌, ◌++◌, length, get_or, set, sym, refl, ◌∙◌, subst, inl, inr, ⊎_elim, arith}
+use Rattle.std.proofs.Common.{◌≡◌, ℕ, zero, suc, ◌+◌, ◌<◌, Bool, true, false, cond, eqb, ◌⊎◌, List, [], ◌∷◌, ◌++◌, length, get_or, set, sym, refl, ap, ◌∙◌, subst, inl, inr, ⊎_elim, arith}
 use Rattle.std.proofs.lemmas.List.{get_or-set_same, get_or-set_other, length-set}
-use Rattle.std.proofs.lemmas.Bool.{eqb-true, eqb-false}
+use Rattle.std.proofs.lemmas.Bool.{eqb-true, eqb-false, eq-eqb, cond-true}
 use Rattle.schedule.specs.declared.activity.Activity.{Activity}
 use Rattle.schedule.specs.Waiting.{due, still_waiting, put_all}
-use Rattle.flight.specs.Scheduling.{Among, here, there, Parts, none, one_due, one_other}
+use Rattle.flight.specs.Scheduling.{Among, here, there, Parts, none, one_due, one_other, LastForPlace}
 
 pub among_cons : {A : Type 0} (w v : A) (xs : List A) → Among w (v ∷ xs) → (w ≡ v) ⊎ Among w xs
 among_cons w v xs (here ys) = inl refl
@@ -14,6 +14,10 @@ pub among_append : {A : Type 0} (w v : A) (xs : List A) → Among w (xs ++ (v �
 among_append w v [] a = ⊎_elim inr (λ b. elim b [ ]) (among_cons w v [] a)
 among_append w v (x ∷ xs) a =
     ⊎_elim (λ e. inl (subst (λ y. Among w (y ∷ xs)) e (here xs))) (λ b. ⊎_elim (λ d. inl (there x xs d)) inr (among_append w v xs b)) (among_cons w x (xs ++ (v ∷ [])) a)
+
+pub among_front : {A : Type 0} (w : A) (xs ys : List A) → Among w xs → Among w (xs ++ ys)
+among_front w xs ys (here zs) = here (zs ++ ys)
+among_front w xs ys (there z zs m) = there z (zs ++ ys) (among_front w zs ys m)
 
 pub among_at : {A : Type 0} (xs : List A) (k : ℕ) (d : A) → k < length xs → Among (get_or xs k d) xs
 among_at [] k d l = absurd (omega arith)
@@ -48,10 +52,35 @@ among_still t xs ds os a (one_other b all es ps f p) m =
     ⊎_elim (λ (d : a ≡ b). (subst (λ y. Among a (y ∷ all)) d (here all), subst (λ (y : Activity). y.release ≡ t → ⊥) (sym d) f))
     (λ n. let q = among_still t all es ps a p n in (there b all q.0, q.1)) (among_cons a b ps m)
 
+pub among_part : (t : ℕ) (xs ds os : List Activity) (a : Activity) → Parts t xs ds os → Among a xs → (a.release ≡ t) ⊎ Among a os
+among_part t xs ds os a none m = elim m [ ]
+among_part t xs ds os a (one_due b all es ps e p) m =
+    ⊎_elim (λ (d : a ≡ b). inl (ap (λ (y : Activity). y.release) d ∙ e)) (λ n. among_part t all es ps a p n) (among_cons a b all m)
+among_part t xs ds os a (one_other b all es ps f p) m =
+    ⊎_elim (λ (d : a ≡ b). inr (subst (λ y. Among a (y ∷ ps)) d (here ps))) (λ n. ⊎_elim inl (λ q. inr (there b ps q)) (among_part t all es ps a p n)) (among_cons a b all m)
+
 pub parts_length : (t : ℕ) (xs ds os : List Activity) → Parts t xs ds os → length ds + length os ≡ length xs
 parts_length t xs ds os none = refl
 parts_length t xs ds os (one_due b all es ps e p) = let h = parts_length t all es ps p in omega arith
 parts_length t xs ds os (one_other b all es ps f p) = let h = parts_length t all es ps p in omega arith
+
+-- those due before and behind one that is due
+pub due_middle : (t : ℕ) (front back : List Activity) (a : Activity) → a.release ≡ t → due t (front ++ (a ∷ back)) ≡ due t front ++ (a ∷ due t back)
+due_middle t [] back a e = cond-true (eqb a.release t) (a ∷ due t back) (due t back) (eq-eqb a.release t e)
+due_middle t (x ∷ front) back a e = go (eqb x.release t) (due_middle t front back a e)
+  where
+    go : (b : Bool) → due t (front ++ (a ∷ back)) ≡ due t front ++ (a ∷ due t back)
+        → cond b (x ∷ due t (front ++ (a ∷ back))) (due t (front ++ (a ∷ back))) ≡ cond b (x ∷ due t front) (due t front) ++ (a ∷ due t back)
+    go true h = ap (λ (l : List Activity). x ∷ l) h
+    go false h = h
+
+-- the last for its place among all is so among those that are due
+pub last_due : (t : ℕ) (a : Activity) (all : List Activity) (l : LastForPlace a all) → a.release ≡ t
+    → (due t all ≡ due t l.front ++ (a ∷ due t l.back)) × ((b : Activity) → Among b (due t l.back) → b.place ≡ a.place → ⊥)
+last_due t a all l e = (
+  ap (due t) l.stands ∙ due_middle t l.front l.back a e,
+  λ b m. (let q = among_due t l.back _ _ b (parts t l.back) m in l.last b q.0 (q.1 ∙ sym e)),
+)
 
 -- what they put
 pub put_other : (ds : List Activity) (values : List ℕ) (p : ℕ) → ((a : Activity) → Among a ds → a.place ≡ p → ⊥) → get_or (put_all ds values) p 0 ≡ get_or values p 0

@@ -17,18 +17,18 @@ abbrev pub next_expected : Inputs → List Inputs → State
 next_expected i is = with_expected (suc (after is).expected) (at_reception i (after is))
 
 -- numbers may be put at places 16 to 63
-abbrev pub Place : ℕ → Type 0
-Place a = (16 ≤ a) × (a ≤ 63)
+abbrev pub PutPlace : ℕ → Type 0
+PutPlace a = (16 ≤ a) × (a ≤ 63)
 
 -- each command has its effect, and only that
 pub record CommandsAct : Type 0 where
-  pub put : (i : Inputs) (is : List Inputs) (a b : ℕ) → Turn i is (Command.Put a b) → Place a → after (i ∷ is) ≡ with_parameters (slice_set (at_reception i (after is)).parameters a b) (next_expected i is)
-  pub later : (i : Inputs) (is : List Inputs) (a : Activity) → Turn i is (Command.Later a) → Place a.place → (at_reception i (after is)).time < a.release → length (at_reception i (after is)).schedule < 32
+  pub put : (i : Inputs) (is : List Inputs) (a b : ℕ) → Turn i is (Command.Put a b) → PutPlace a → after (i ∷ is) ≡ with_parameters (slice_set (at_reception i (after is)).parameters a b) (next_expected i is)
+  pub later : (i : Inputs) (is : List Inputs) (a : Activity) → Turn i is (Command.Later a) → PutPlace a.place → (at_reception i (after is)).time < a.release → length (at_reception i (after is)).schedule < 32
       → after (i ∷ is) ≡ with_schedule ((at_reception i (after is)).schedule ++ (a ∷ [])) (next_expected i is)
   pub forget : (i : Inputs) (is : List Inputs) → Turn i is Command.Forget → after (i ∷ is) ≡ with_schedule [] (next_expected i is)
   pub sleep : (i : Inputs) (is : List Inputs) → Turn i is Command.Sleep → after (i ∷ is) ≡ with_safe_mode true (next_expected i is)
   pub wake : (i : Inputs) (is : List Inputs) → Turn i is Command.Wake → after (i ∷ is) ≡ with_safe_mode false (next_expected i is)
-  pub set_rule : (i : Inputs) (is : List Inputs) (k : ℕ) (r : Rule) → Turn i is (Command.SetRule k r) → k < 16 → r.watches ≤ 63 → (r.safes ≡ true) ⊎ Place r.place
+  pub set_rule : (i : Inputs) (is : List Inputs) (k : ℕ) (r : Rule) → Turn i is (Command.SetRule k r) → k < 16 → r.watches ≤ 63 → (r.safes ≡ true) ⊎ PutPlace r.place
       → after (i ∷ is) ≡ with_rules (slice_set (at_reception i (after is)).rules k r) (with_counts (slice_set (at_reception i (after is)).counts k 0) (next_expected i is))
 
 -- what cannot be done in a state

@@ -4,3 +4,4 @@ pub mod Commanding
 pub mod Effects
 pub mod Scheduling
 pub mod Protecting
+pub mod EveryFlight

@@ -5,8 +5,9 @@
 ghost use Rattle.flight.specs.Flight.{FliesRight, NeverRefused, CarriesOn};
 ghost use Rattle.flight.specs.Commanding.{EachOnce, ComesThrough, SafeAtOnce};
 ghost use Rattle.flight.specs.Effects.{CommandsAct, ElseIgnored, TickKeeps, ReadsRight, KeepsSizes, TimeRight, RejectedRight, LaunchesRight};
-ghost use Rattle.flight.specs.Scheduling.{PartsInTick, NeverLate, KeptTillDue, PutWhenDue, ElseKept, MissedInSafeMode, MissedRight};
-ghost use Rattle.flight.specs.Protecting.{PastRight, CountsRight, InstrumentsRight, BeginsAnew, ActsJustThen, SafeByRules, RulesPut, ElseUntouched};
+ghost use Rattle.flight.specs.Scheduling.{PartsInTick, EachActivity, NeverLate, KeptTillDue, OneIsLast, PutWhenDue, ElseKept, MissedInSafeMode, ReleasesRight, MissedRight};
+ghost use Rattle.flight.specs.Protecting.{PastRight, CountsRight, InstrumentsRight, BeginsAnew, ActsJustThen, SafeByRules, RulesPut, ElseUntouched, LooksRight, SafeLasts};
+ghost use Rattle.flight.specs.EveryFlight.{FlewLawfully};
 
 /// Whatever the readings, the frames and the upsets, what memory holds is the story's.
 pub fn flies_right()
@@ -21,6 +22,11 @@ pub fn never_refused()
 /// One more tick from whatever the memory became goes on with the flight.
 pub fn carries_on()
     ensures { CarriesOn }
+{}
+
+/// The inputs of every flight are lawful.
+pub fn flew_lawfully()
+    ensures { FlewLawfully }
 {}
 
 /// Each command is obeyed once, in order, none left out.
@@ -83,6 +89,11 @@ pub fn parts_in_tick()
     ensures { PartsInTick }
 {}
 
+/// What waits stays until its tick, unless all is forgotten; then it is gone; and only `Later` adds one.
+pub fn each_activity()
+    ensures { EachActivity }
+{}
+
 /// No activity is kept past its time.
 pub fn never_late()
     ensures { NeverLate }
@@ -91,6 +102,11 @@ pub fn never_late()
 /// What waits on is touched by no command but forget, and later adds one behind.
 pub fn kept_till_due()
     ensures { KeptTillDue }
+{}
+
+/// Of the activities for one place and one time one is the last.
+pub fn one_is_last()
+    ensures { OneIsLast }
 {}
 
 /// The last due activity for a place has put its number, outside safe mode.
@@ -106,6 +122,11 @@ pub fn else_kept()
 /// In safe mode each due activity is counted as missed and changes no parameter.
 pub fn missed_in_safe_mode()
     ensures { MissedInSafeMode }
+{}
+
+/// The release of activities, of whatever state: what is put, what is missed, and that nothing else changes.
+pub fn releases_right()
+    ensures { ReleasesRight }
 {}
 
 /// Missed counts what it should over the whole flight.
@@ -143,12 +164,22 @@ pub fn safe_by_rules()
     ensures { SafeByRules }
 {}
 
-/// The last rule that acts for a place has put its number.
+/// Safe mode lasts until it is commanded otherwise.
+pub fn safe_lasts()
+    ensures { SafeLasts }
+{}
+
+/// At each look the last rule before it that acts for a place has put its number there.
 pub fn rules_put()
     ensures { RulesPut }
 {}
 
-/// Nothing else changes a parameter.
+/// At each look a place for which none acts, and that is no instrument's, is as the tick before left it.
 pub fn else_untouched()
     ensures { ElseUntouched }
+{}
+
+/// At each look the instruments' places hold what was read, and after the last activities are released.
+pub fn looks_right()
+    ensures { LooksRight }
 {}

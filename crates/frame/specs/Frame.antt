@@ -1,5 +1,6 @@
--- Telecommand frames: when twelve numbers are a whole frame, which command a frame carries, and the frame of a command.
-use Rattle.std.specs.Prelude.{ℕ, zero, suc, ◌+◌, ◌*◌, ◌%◌, Bool, true, cond, ◌&&◌, List, [], ◌∷◌, length, Some, None, Option, ◌==◌, nat_le, slice_index, slice_set}
+-- Telecommand frames: when twelve numbers are a whole frame, which command a frame carries,
+-- and the frame of a command.
+use Rattle.std.specs.Prelude.{ℕ, zero, suc, ◌+◌, ◌*◌, ◌%◌, Bool, true, cond, ◌&&◌, List, [], ◌∷◌, ◌++◌, length, Some, None, Option, ◌==◌, nat_le, slice_index, slice_set}
 use Rattle.std.specs.List.{list_all}
 use Rattle.rules.specs.Numbers.{rule_from}
 use Rattle.schedule.specs.Numbers.{activity_from}
@@ -29,41 +30,56 @@ command_of f =
     (cond (slice_index f 1 == 2) Command.Forget
     (cond (slice_index f 1 == 3) Command.Sleep
     (cond (slice_index f 1 == 4) Command.Wake
-    (cond (slice_index f 1 == 5) (Command.SetRule (slice_index f 2) (rule_from (λ j. slice_index f (3 + j))))
+    (cond (slice_index f 1 == 5)
+    (Command.SetRule (slice_index f 2) (rule_from (λ j. slice_index f (3 + j))))
     (Command.Unknown (slice_index f 1)))))))
 
 -- what a frame carries: nothing if it is not whole
 abbrev pub decoded : List ℕ → Option Telecommand
-decoded f = cond (is_whole f) (Some (record { number = slice_index f 0; command = command_of f })) None
+decoded f =
+    cond (is_whole f) (Some (record { number = slice_index f 0; command = command_of f })) None
 
--- whether a command is what its kind is read as: of no kind are those from 6 on
+-- the number by which a frame says what it commands
+abbrev pub kind_of : Command → ℕ
+kind_of (Command.Put a b) = 0
+kind_of (Command.Later a) = 1
+kind_of Command.Forget = 2
+kind_of Command.Sleep = 3
+kind_of Command.Wake = 4
+kind_of (Command.SetRule k r) = 5
+kind_of (Command.Unknown k) = k
+
+-- so many kinds there are, counted from 0: a larger number is of none
+abbrev pub kinds : ℕ
+kinds = 6
+
+-- whether a command is what its kind is read as
 abbrev pub is_kind : Command → Bool
-is_kind (Command.Put a b) = true
-is_kind (Command.Later a) = true
-is_kind Command.Forget = true
-is_kind Command.Sleep = true
-is_kind Command.Wake = true
-is_kind (Command.SetRule k r) = true
-is_kind (Command.Unknown k) = nat_le 6 k
+is_kind (Command.Unknown k) = nat_le kinds k
+is_kind _ = true
 
 abbrev pub bit : Bool → ℕ
 bit b = cond b 1 0
 
+-- what a frame says of a command besides its kind
+abbrev pub arguments_of : Command → List ℕ
+arguments_of (Command.Put a b) = a ∷ (b ∷ [])
+arguments_of (Command.Later a) = a.release ∷ (a.place ∷ (a.number ∷ []))
+arguments_of (Command.SetRule k r) =
+    k ∷ (r.watches ∷ (r.limit ∷ (bit r.upward ∷ (r.needs ∷ (bit r.safes ∷ (r.place ∷
+    (r.number ∷ [])))))))
+arguments_of _ = []
+
+-- nine numbers, with noughts behind those that there are
+abbrev pub filled : List ℕ → List ℕ
+filled xs =
+    slice_index xs 0 ∷ (slice_index xs 1 ∷ (slice_index xs 2 ∷ (slice_index xs 3 ∷
+    (slice_index xs 4 ∷ (slice_index xs 5 ∷ (slice_index xs 6 ∷ (slice_index xs 7 ∷
+    (slice_index xs 8 ∷ []))))))))
+
 -- the frame of a telecommand before its check is worked out
-abbrev pub arranged : (number kind a b c d e f g h : ℕ) → List ℕ
-arranged n k a b c d e f g h = n ∷ (k ∷ (a ∷ (b ∷ (c ∷ (d ∷ (e ∷ (f ∷ (g ∷ (h ∷ (0 ∷ (0 ∷ [])))))))))))
-
-abbrev pub carried : ℕ → Command → List ℕ
-carried n (Command.Put a b) = arranged n 0 a b 0 0 0 0 0 0
-carried n (Command.Later a) = arranged n 1 a.release a.place a.number 0 0 0 0 0
-carried n Command.Forget = arranged n 2 0 0 0 0 0 0 0 0
-carried n Command.Sleep = arranged n 3 0 0 0 0 0 0 0 0
-carried n Command.Wake = arranged n 4 0 0 0 0 0 0 0 0
-carried n (Command.SetRule k r) = arranged n 5 k r.watches r.limit (bit r.upward) r.needs (bit r.safes) r.place r.number
-carried n (Command.Unknown k) = arranged n k 0 0 0 0 0 0 0 0
-
 abbrev pub body : Telecommand → List ℕ
-body t = carried t.number t.command
+body t = t.number ∷ (kind_of t.command ∷ (filled (arguments_of t.command) ++ (0 ∷ [])))
 
 abbrev pub encoded : Telecommand → List ℕ
 encoded t = slice_set (body t) 11 (check_of (body t))

@@ -2,8 +2,8 @@
 
 #![tactic(auto)]
 
-ghost use Rattle.std.specs.Prelude.{◌≡◌, true, false, Some, MatchOption};
-ghost use Rattle.frame.specs.Frame.{all_small, check_of, is_whole, command_of, decoded, body, encodable, encoded, encoding, is_kind};
+ghost use Rattle.std.specs.Prelude.{◌≡◌, true, Some};
+ghost use Rattle.frame.specs.Frame.{all_small, check_of, is_whole, command_of, decoded, kind_of, arguments_of, filled, is_kind, body, encodable, encoded, encoding};
 
 use rules::Rule;
 use schedule::Activity;
@@ -15,6 +15,9 @@ pub const LENGTH: usize = 12;
 const LARGEST: u64 = 0xffff_ffff;
 
 const MODULUS: u64 = 65521;
+
+// Kinds of commands are counted from 0; there are so many.
+const KINDS: u64 = 6;
 
 /// What a frame commands.
 #[derive(Clone, Copy, PartialEq, Eq, Debug, Drop)]
@@ -44,10 +47,12 @@ pub struct Telecommand {
 
 /// The command that a whole frame carries; nothing where the frame is not whole. An `Option` and no `TryFrom`, here
 /// and in `encode`: of what is not whole there is nothing more to say.
-pub fn decode(frame: &[u64]) -> Option<Telecommand>
+pub fn decode(frame: &[u64; LENGTH]) -> Option<Telecommand>
     ensures { result ≡ decoded frame.now }
 {
-    let frame = whole(frame)?;
+    if !is_whole(frame) {
+        return None;
+    }
     Some(Telecommand {
         number: frame[0],
         command: command_in(frame),
@@ -56,7 +61,7 @@ pub fn decode(frame: &[u64]) -> Option<Telecommand>
 
 /// The frame of a telecommand; nothing where a number of it is 2^32 or more, or where an
 /// unknown command has the kind of a known one.
-pub fn encode(telecommand: Telecommand) -> Option<[u64; 12]>
+pub fn encode(telecommand: Telecommand) -> Option<[u64; LENGTH]>
     ensures value { result ≡ encoding telecommand }
     ensures back { encodable telecommand ≡ true → decoded (encoded telecommand) ≡ Some telecommand }
 {
@@ -68,27 +73,22 @@ pub fn encode(telecommand: Telecommand) -> Option<[u64; 12]>
     Some(frame)
 }
 
-// The numbers of a frame that is whole: twelve, small enough, the last of them the check.
-fn whole(frame: &[u64]) -> Option<&[u64; 12]>
-    ensures { MatchOption result (is_whole frame.now ≡ false) (λ twelve. (twelve.now ≡ frame.now) × (is_whole frame.now ≡ true)) }
+// Whether its numbers are small enough, and the last of them is the check over the others.
+fn is_whole(frame: &[u64; LENGTH]) -> bool
+    ensures { result ≡ is_whole frame.now }
 {
-    let twelve = <&[u64; LENGTH]>::try_from(frame).ok()?;
-    if small(twelve) && twelve[11] == check(twelve) {
-        Some(twelve)
-    } else {
-        None
-    }
+    small(frame) && frame[11] == check(frame)
 }
 
 // Whether a frame can carry these numbers.
-fn small(numbers: &[u64; 12]) -> bool
+fn small(numbers: &[u64; LENGTH]) -> bool
     ensures { result ≡ all_small numbers.now }
 {
     numbers.iter().all(|x| *x <= LARGEST)
 }
 
 // Each of the first eleven numbers times one more than its place, added, modulo 65,521.
-fn check(frame: &[u64; 12]) -> u64
+fn check(frame: &[u64; LENGTH]) -> u64
     requires { all_small frame.now ≡ true }
     ensures { result ≡ check_of frame.now }
 {
@@ -99,8 +99,8 @@ fn check(frame: &[u64; 12]) -> u64
     sum % MODULUS
 }
 
-// A frame says the kind by a number: here and in `unchecked` stands which.
-fn command_in(frame: &[u64; 12]) -> Command
+// A frame says by a number what it commands: here and in `kind_of` stands which number that is.
+fn command_in(frame: &[u64; LENGTH]) -> Command
     ensures { result ≡ command_of frame.now }
 {
     let [_, kind, a, b, c, d, e, f, g, h, _, _] = *frame;
@@ -125,24 +125,44 @@ fn command_in(frame: &[u64; 12]) -> Command
 }
 
 // The frame without its check.
-fn unchecked(telecommand: Telecommand) -> [u64; 12]
+fn unchecked(telecommand: Telecommand) -> [u64; LENGTH]
     ensures { result ≡ body telecommand }
 {
-    let n = telecommand.number;
-    match telecommand.command {
-        Command::Put { place, number } => [n, 0, place, number, 0, 0, 0, 0, 0, 0, 0, 0],
+    let Telecommand { number, command } = telecommand;
+    let [a, b, c, d, e, f, g, h, i] = arguments_of(command);
+    [number, kind_of(command), a, b, c, d, e, f, g, h, i, 0]
+}
+
+// The number by which a frame says what it commands.
+fn kind_of(command: Command) -> u64
+    ensures { result ≡ kind_of command }
+{
+    match command {
+        Command::Put { .. } => 0,
+        Command::Later { .. } => 1,
+        Command::Forget => 2,
+        Command::Sleep => 3,
+        Command::Wake => 4,
+        Command::SetRule { .. } => 5,
+        Command::Unknown { kind } => kind,
+    }
+}
+
+// What a frame says of it besides, and noughts behind that.
+fn arguments_of(command: Command) -> [u64; 9]
+    ensures { result ≡ filled (arguments_of command) }
+{
+    match command {
+        Command::Put { place, number } => [place, number, 0, 0, 0, 0, 0, 0, 0],
         Command::Later { activity } => {
             let [release, place, number] = <[u64; 3]>::from(activity);
-            [n, 1, release, place, number, 0, 0, 0, 0, 0, 0, 0]
+            [release, place, number, 0, 0, 0, 0, 0, 0]
         }
-        Command::Forget => [n, 2, 0, 0, 0, 0, 0, 0, 0, 0, 0, 0],
-        Command::Sleep => [n, 3, 0, 0, 0, 0, 0, 0, 0, 0, 0, 0],
-        Command::Wake => [n, 4, 0, 0, 0, 0, 0, 0, 0, 0, 0, 0],
         Command::SetRule { index, rule } => {
             let [a, b, c, d, e, f, g] = <[u64; 7]>::from(rule);
-            [n, 5, index, a, b, c, d, e, f, g, 0, 0]
+            [index, a, b, c, d, e, f, g, 0]
         }
-        Command::Unknown { kind } => [n, kind, 0, 0, 0, 0, 0, 0, 0, 0, 0, 0],
+        _ => [0; 9],
     }
 }
 
@@ -151,7 +171,7 @@ fn of_its_kind(command: Command) -> bool
     ensures { result ≡ is_kind command }
 {
     match command {
-        Command::Unknown { kind } => kind > 5,
+        Command::Unknown { kind } => kind >= KINDS,
         _ => true,
     }
 }

@@ -5,3 +5,5 @@ pub mod Places
 pub mod Back
 pub mod Sanity
 pub mod Joined
+pub mod Said
+pub mod Tidiness

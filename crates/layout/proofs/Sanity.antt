@@ -1,8 +1,8 @@
 -- Words without fault are those that the map allows.
-use Rattle.std.proofs.Common.{◌≡◌, ℕ, ◌+◌, ◌-◌, ◌*◌, ◌/◌, ◌%◌, ◌<◌, ◌≤◌, Bool, true, false, cond, not, ◌&&◌, eqb, ltb, leb, ◌⊎◌, List, [], ◌∷◌, ◌++◌, length, length-append, bit_or, get_or, Some, None, Option, sym, refl, ◌∙◌, subst, ⊎_elim, arith}
+use Rattle.std.proofs.Common.{◌≡◌, ℕ, zero, suc, ◌+◌, ◌-◌, ◌*◌, ◌/◌, ◌%◌, ◌<◌, ◌≤◌, Bool, true, false, cond, not, ◌&&◌, eqb, ltb, leb, ◌⊎◌, List, [], ◌∷◌, ◌++◌, length, length-append, bit_or, get_or, Some, None, Option, sym, refl, ap, ◌∙◌, subst, ⊎_elim, arith}
 use Rattle.std.specs.Prelude.{MatchOption, MatchBool}
 use lib.Bits.{or_add_and, and_le_l, and_le_r}
-use Rattle.std.specs.List.{range_with_len, AllWithin}
+use Rattle.std.specs.List.{range_with_len, AllWithin, find}
 use Rattle.std.proofs.lemmas.List.{get_or_append_left, get_or_push}
 use Rattle.std.proofs.lemmas.List.FromFn.{length-range_with_len, get_or-range_with_len}
 use Rattle.std.proofs.lemmas.Bool.Decides.{nat_tests}
@@ -10,7 +10,7 @@ use Rattle.std.proofs.lemmas.Bool.{lt-ltb, le-ltb, ltb-false, leb-false, ne_eqb,
 use Rattle.parameters.specs.Places.{may_put}
 use Rattle.satellite.specs.Fit.{most}
 use Rattle.layout.specs.Map.{activity_size, rule_size, waiting_at, activities_at, rules_at, counts_at, word_count}
-use Rattle.layout.specs.Fault.{at_fault, Faultless, Lowest, Sane, FaultsRight}
+use Rattle.layout.specs.Fault.{at_fault, Faultless, Lowest, lowest_fault, Sane, FaultsRight}
 
 -- a word at its place in an activity or a rule
 activity_place : (ws : List ℕ) (k i j : ℕ) → j < activity_size → k ≡ activities_at + activity_size * i + j → i < 32
@@ -83,8 +83,43 @@ faultless_of ws f k lt =
     (λ d. rw (le-ltb k counts_at d) refl) (cases_lt k counts_at))) (cases_lt k rules_at))) (cases_lt k activities_at)))
     (cases_eq k waiting_at))
 
+-- the first at fault of n words from word a on
+abbrev First : List ℕ → ℕ → ℕ → Option ℕ → Type 0
+First ws a n None = (k : ℕ) → a ≤ k → k < a + n → at_fault ws k ≡ false
+First ws a n (Some k) = (k < a + n) × (at_fault ws k ≡ true) × ((j : ℕ) → a ≤ j → j < k → at_fault ws j ≡ false)
+
+one_before : (ws : List ℕ) (a n : ℕ) (o : Option ℕ) → First ws (a + 1) n o → (b : Bool) → at_fault ws a ≡ b → First ws a (suc n) (cond b (Some a) o)
+one_before ws a n o h true e = (omega arith, e, λ j l m. absurd (omega arith))
+one_before ws a n None h false e = λ k l m. ⊎_elim (λ (p : a < k). h k (omega arith) (omega arith)) (λ (p : k ≤ a). let d : a ≡ k = omega arith in subst (λ j. at_fault ws j ≡ false) d e) (cases_lt a k)
+one_before ws a n (Some k) h false e =
+    (omega (arith, h.0), h.1, λ j l m. ⊎_elim (λ (p : a < j). h.2 j (omega arith) m) (λ (p : j ≤ a). let d : a ≡ j = omega arith in subst (λ i. at_fault ws i ≡ false) d e) (cases_lt a j))
+
+is_first : (ws : List ℕ) (a n : ℕ) → First ws a n (find (at_fault ws) (range_with_len a n))
+is_first ws a zero = λ k l m. absurd (omega arith)
+is_first ws a (suc n) = one_before ws a n (find (at_fault ws) (range_with_len (a + 1) n)) (is_first ws (a + 1) n) (at_fault ws a) refl
+
+as_lowest : (ws : List ℕ) (o : Option ℕ) → First ws 0 word_count o → Lowest ws o
+as_lowest ws None h = λ k l. h k (omega arith) l
+as_lowest ws (Some k) h = (h.0, h.1, λ j l. h.2 j (omega arith) l)
+
+pub lowest_right : (ws : List ℕ) → Lowest ws (lowest_fault ws)
+unfolding lowest_fault
+lowest_right ws = as_lowest ws (find (at_fault ws) (range_with_len 0 word_count)) (is_first ws 0 word_count)
+
+-- there is one such answer
+once : (ws : List ℕ) (o p : Option ℕ) → Lowest ws o → Lowest ws p → o ≡ p
+once ws None None h g = refl
+once ws None (Some k) h g = absurd (true≢false (sym g.1 ∙ h k g.0))
+once ws (Some k) None h g = absurd (true≢false (sym h.1 ∙ g k h.0))
+once ws (Some j) (Some k) h g =
+    ⊎_elim (λ (l : j < k). absurd (true≢false (sym h.1 ∙ g.2 j l)))
+    (λ (l : k ≤ j). ⊎_elim (λ (m : k < j). absurd (true≢false (sym g.1 ∙ h.2 k m))) (λ (m : j ≤ k). let e : j ≡ k = omega arith in ap Some e) (cases_lt k j)) (cases_lt j k)
+
+pub lowest_is : (ws : List ℕ) (o : Option ℕ) → Lowest ws o → o ≡ lowest_fault ws
+lowest_is ws o h = once ws o (lowest_fault ws) h (lowest_right ws)
+
 pub faults_right : FaultsRight
-faults_right = record { sound = sane_of; complete = faultless_of }
+faults_right = record { sound = sane_of; complete = faultless_of; lowest = lowest_right }
 
 -- the lowest number that is at fault, of those below the last
 pub lowest_of : (ws : List ℕ) (o : Option ℕ) → MatchOption o ((k : ℕ) → 0 ≤ k → k < word_count → at_fault ws k ≡ false) (λ i. (0 ≤ i) × (i < word_count) × (at_fault ws i ≡ true) × ((k : ℕ) → 0 ≤ k → k < i → at_fault ws k ≡ false)) → Lowest ws o

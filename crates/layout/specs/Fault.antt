@@ -1,13 +1,15 @@
 -- Words that no lawful flight of fewer than 2^62 ticks leaves.
 use Rattle.std.specs.Prelude.{◌≡◌, ℕ, ◌+◌, ◌-◌, ◌*◌, ◌/◌, ◌%◌, ◌<◌, ◌≤◌, Bool, true, false, cond, not, ◌&&◌, ◌⊎◌, List, Some, None, Option, ◌==◌, nat_le, nat_lt, slice_index, slice_index_or}
+use Rattle.std.specs.List.{find, range_with_len}
 use Rattle.parameters.specs.Places.{may_put}
 use Rattle.satellite.specs.Fit.{most}
-use Rattle.layout.specs.Map.{word_count, activity_size, rule_size, waiting_at, activities_at, rules_at, counts_at}
+use Rattle.satellite.specs.State.{State}
+use Rattle.layout.specs.Map.{Sized, Tells, words_of, time_at, word_count, activity_size, rule_size, waiting_at, activities_at, rules_at, counts_at}
 
 -- of an activity that waits: its time is not after now, or its place may not be put
 abbrev pub activity_fault : List ℕ → ℕ → Bool
 activity_fault ws k =
-    nat_lt ((k - activities_at) / activity_size) (slice_index ws waiting_at) && cond ((k - activities_at) % activity_size == 0) (nat_le (slice_index ws k) (slice_index ws 0)) ((k - activities_at) % activity_size == 1 && not (may_put (slice_index ws k)))
+    nat_lt ((k - activities_at) / activity_size) (slice_index ws waiting_at) && cond ((k - activities_at) % activity_size == 0) (nat_le (slice_index ws k) (slice_index ws time_at)) ((k - activities_at) % activity_size == 1 && not (may_put (slice_index ws k)))
 
 -- of a rule: it watches no parameter, or it is on and puts where it may not
 abbrev pub rule_fault : List ℕ → ℕ → Bool
@@ -32,13 +34,17 @@ abbrev pub Lowest : List ℕ → Option ℕ → Type 0
 Lowest ws None = Faultless ws
 Lowest ws (Some k) = (k < word_count) × (at_fault ws k ≡ true) × ((j : ℕ) → j < k → at_fault ws j ≡ false)
 
+-- and which it is
+unfoldable pub lowest_fault : List ℕ → Option ℕ
+lowest_fault ws = find (at_fault ws) (range_with_len 0 word_count)
+
 -- the same in the words of the map: no word is past 2^62, at most 32 activities wait, each for a time after now and a place that may be put,
 -- and each rule watches a parameter and is off, puts to safe mode, or puts where it may
 abbrev pub Small : List ℕ → Type 0
 Small ws = (k : ℕ) → k < word_count → slice_index ws k ≤ most
 
 abbrev pub Later : List ℕ → ℕ → Type 0
-Later ws i = slice_index ws 0 < slice_index ws (activities_at + activity_size * i)
+Later ws i = slice_index ws time_at < slice_index ws (activities_at + activity_size * i)
 
 abbrev pub MayPut : List ℕ → ℕ → Type 0
 MayPut ws i = may_put (slice_index ws (activities_at + 1 + activity_size * i)) ≡ true
@@ -60,3 +66,9 @@ pub record Sane (ws : List ℕ) : Type 0 where
 pub record FaultsRight : Type 0 where
   pub sound : (ws : List ℕ) → Faultless ws → Sane ws
   pub complete : (ws : List ℕ) → Sane ws → Faultless ws
+  pub lowest : (ws : List ℕ) → Lowest ws (lowest_fault ws)
+
+-- what is written for a state may be left for it; and whatever may be left for it is at fault no more than what is written
+pub record TidyRight : Type 0 where
+  pub written : (s : State) → Sized s → Tells (words_of s) s
+  pub faultless : (ws : List ℕ) (s : State) → Sized s → Tells ws s → Faultless (words_of s) → Faultless ws

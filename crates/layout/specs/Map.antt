@@ -1,4 +1,5 @@
--- Where the words of memory lie. This table, `words_of` and `state_of` are the only places that say so.
+-- Where the words of memory lie. This table and the names below say where each part begins, and nothing else does; which
+-- number of an activity or a rule stands where in its own words, schedule and rules say (their Numbers.antt).
 --
 --   0           time
 --   1           expected
@@ -10,7 +11,7 @@
 --   70 to 165   32 activities of three words: release, place, number; 0 where none waits
 --   166 to 277  16 rules of seven words: watches, limit, 1 for upward, needs, 1 for safe mode, place, number
 --   278 to 293  the 16 counts of the rules
-use Rattle.std.specs.Prelude.{◌≡◌, ℕ, ◌+◌, ◌-◌, ◌*◌, ◌≤◌, Bool, cond, List, [], ◌∷◌, ◌++◌, map, length, take, drop, replicate, ◌==◌, slice_index}
+use Rattle.std.specs.Prelude.{◌≡◌, ℕ, ◌+◌, ◌-◌, ◌*◌, ◌<◌, ◌≤◌, Bool, cond, List, [], ◌∷◌, ◌++◌, map, length, take, drop, replicate, ◌==◌, slice_index}
 use Rattle.std.specs.List.{range_with_len, flat_map}
 use Rattle.schedule.specs.declared.activity.Activity.{Activity}
 use Rattle.rules.specs.declared.rule.Rule.{Rule}
@@ -25,6 +26,12 @@ activity_size = 3
 
 abbrev pub rule_size : ℕ
 rule_size = 7
+
+abbrev pub time_at : ℕ
+time_at = 0
+
+abbrev pub safe_mode_at : ℕ
+safe_mode_at = 2
 
 abbrev pub waiting_at : ℕ
 waiting_at = 5 + 64
@@ -118,3 +125,17 @@ pub record Sized (s : State) : Type 0 where
 -- the law of the map: what was written is what is read
 abbrev pub ReadsBack : Type 0
 ReadsBack = (s : State) → Sized s → (length (words_of s) ≡ word_count) × (state_of (words_of s) ≡ s)
+
+-- words of which nothing is read, or whether they are 1, hold 0 or 1: what no activity has, and the marks of safe mode and of rules
+pub record Tidy (ws : List ℕ) : Type 0 where
+  pub safe_mode : slice_index ws safe_mode_at ≤ 1
+  pub upward : (i : ℕ) → i < 16 → slice_index ws (rules_at + 2 + rule_size * i) ≤ 1
+  pub safes : (i : ℕ) → i < 16 → slice_index ws (rules_at + 4 + rule_size * i) ≤ 1
+  pub beyond :
+      (j : ℕ) → activity_size * slice_index ws waiting_at ≤ j → j < activities_room →
+      slice_index ws (activities_at + j) ≤ 1
+
+-- words that a program may leave for a state: they say it, and they are tidy
+pub record Tells (ws : List ℕ) (s : State) : Type 0 where
+  pub says : state_of ws ≡ s
+  pub tidy : Tidy ws

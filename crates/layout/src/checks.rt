@@ -1,7 +1,7 @@
 ghost use Rattle.layout.specs.Map.{waiting_at, activities_at, rules_at, counts_at, word_count};
 ghost use Rattle.std.specs.Prelude.{◌≡◌, ℕ, ◌<◌, ◌≤◌, true, ◌⊎◌, slice_index};
 ghost use Rattle.parameters.specs.Places.{may_put};
-ghost use Rattle.layout.specs.Fault.{activity_fault, rule_fault, at_fault, Lowest, Small, Later, MayPut, Watches, Puts, Sane, FaultsRight};
+ghost use Rattle.layout.specs.Fault.{activity_fault, rule_fault, at_fault, lowest_fault, Small, Later, MayPut, Watches, Puts, Sane, FaultsRight, TidyRight};
 
 use crate::map::{ACTIVITIES, ACTIVITY, COUNTS, RULE, RULES, TIME, WAITING, WORDS};
 use crate::read::{activity, monitor};
@@ -14,7 +14,7 @@ const LARGEST: u64 = 1 << 62;
 
 /// The lowest word that no lawful flight of fewer than 2^62 ticks leaves, if there is one.
 pub fn fault(words: &[u64; WORDS]) -> Option<usize>
-    ensures { Lowest words.now result }
+    ensures { result ≡ lowest_fault words.now }
 {
     // Mostly no word is at fault, which is found out sooner than the lowest one.
     if sane(words) {
@@ -107,4 +107,9 @@ fn rule_fault(words: &[u64; WORDS], k: usize) -> bool
 /// The words at fault are those that the map forbids.
 pub fn faults_right()
     ensures { FaultsRight }
+{}
+
+/// What is written is tidy words, and tidy words are at fault no more than what is written.
+pub fn tidy_right()
+    ensures { TidyRight }
 {}

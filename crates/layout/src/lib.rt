@@ -7,7 +7,7 @@ mod map;
 mod read;
 mod write;
 
-pub use checks::{fault, faults_right};
+pub use checks::{fault, faults_right, tidy_right};
 pub use map::{WORDS, reads_back};
 pub use read::satellite;
 pub use write::write_words;

@@ -1,9 +1,11 @@
 -- What is read of a memory that held words three times and was upset in one copy of each at most.
-use Rattle.std.proofs.Common.{◌≡◌, ℕ, zero, suc, ◌+◌, ◌-◌, ◌*◌, ◌<◌, cond, eqb, ◌≢◌, ◌⊎◌, List, ◌++◌, length, get_or, set, sym, refl, ap, ◌∙◌, inl, inr, ⊎_elim, arith}
-use Rattle.std.proofs.lemmas.List.FromFn.{fill_by_all}
+use Rattle.std.proofs.Common.{◌≡◌, ℕ, zero, suc, ◌+◌, ◌-◌, ◌*◌, ◌<◌, cond, eqb, ◌≢◌, ◌⊎◌, List, ◌++◌, length, get_or, set, sym, refl, ap, ◌∙◌, inl, inr, ⊎_elim, arith, length-append}
+use Rattle.std.proofs.lemmas.List.FromFn.{fill_by_all, length-map-range_with_len}
 use Rattle.std.proofs.lemmas.List.{get_or_append_left, get_or-append_right, get_or-set_other, length-set}
 use Rattle.std.proofs.lemmas.Bool.{cases_eq, eq-eqb, cond_both, eqb-true}
-use Rattle.memory.specs.Threefold.{copy, majority, voted, voted_words, thrice, Holds, Spared, Upset, VotesMend, UpsetsHappen}
+use Rattle.memory.specs.Keeper.{Mends}
+use Rattle.memory.specs.Threefold.{copy, majority, voted, voted_words, thrice, Holds, Spared, Upset, threefold, UpsetsHappen}
+use Rattle.memory.specs.Kept.{KeepsWords}
 
 pub voted_at : (n k : ℕ) (m : List ℕ) → majority (get_or m k 0) (get_or m (n + k) 0) (get_or m (2 * n + k) 0) ≡ voted n m k
 unfolding voted
@@ -58,9 +60,26 @@ voted_back n m h ws holds upset k lt =
     (⊎_elim (λ (p : Spared n m h 0 k × Spared n m h 2 k). inr (inl (p.0 ∙ z, p.1 ∙ t))) (λ (p : Spared n m h 0 k × Spared n m h 1 k). inr (inr (p.0 ∙ z, p.1 ∙ o))))
     (upset.two k lt))
 
-pub votes_mend : VotesMend
+mends : (n : ℕ) → Mends (threefold n)
 unfolding voted_words
-votes_mend n kept found words holds upset = sym (fill_by_all (voted n found) words n 0 holds.0 (λ k lt. sym (voted_back n kept found words holds upset k lt)))
+mends n kept found words holds upset = sym (fill_by_all (voted n found) words n 0 holds.0 (λ k lt. sym (voted_back n kept found words holds upset k lt)))
+
+read_long : (n : ℕ) (found : List ℕ) → length (voted_words n found) ≡ n
+unfolding voted_words
+read_long n found = length-map-range_with_len (voted n found) 0 n
+
+thrice_long : (ws : List ℕ) → length (thrice ws) ≡ 3 * length ws
+thrice_long ws = grind (arith, length-append)
+
+pub keeps_words : KeepsWords
+keeps_words n = record {
+  mends = mends n;
+  stores = λ words e. (e, refl);
+  words_long = λ kept words h. h.0;
+  long = λ kept found words h u. u.long ∙ ap length h.1 ∙ thrice_long words ∙ ap (λ k. 3 * k) h.0;
+  unharmed = λ kept. record { long = refl; two = λ k lt. inl (refl, refl) };
+  read_long = read_long n;
+}
 
 -- places of different copies or words differ
 pub apart : (n c k d j : ℕ) → k < n → j < n → c < 3 → d < 3 → (c ≡ d → k ≡ j → ⊥) → c * n + k ≢ d * n + j

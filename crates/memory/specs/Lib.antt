@@ -1,2 +1,3 @@
 pub mod Keeper
 pub mod Threefold
+pub mod Kept

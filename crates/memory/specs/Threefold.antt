@@ -1,7 +1,7 @@
 -- Words kept three times, copy after copy: n words are 3 * n numbers, and copy c of word k is number c * n + k.
 use Rattle.std.specs.Prelude.{◌≡◌, ℕ, ◌+◌, ◌*◌, ◌<◌, cond, ◌⊎◌, List, ◌++◌, map, length, ◌==◌, slice_index, slice_set}
 use Rattle.std.specs.List.{range_with_len}
-use Rattle.memory.specs.Keeper.{Keeper, Mends}
+use Rattle.memory.specs.Keeper.{Keeper}
 
 abbrev pub copy : ℕ → List ℕ → ℕ → ℕ → ℕ
 copy n m c k = slice_index m (c * n + k)
@@ -17,9 +17,13 @@ voted n m k = majority (copy n m 0 k) (copy n m 1 k) (copy n m 2 k)
 unfoldable pub voted_words : ℕ → List ℕ → List ℕ
 voted_words n m = map (voted n m) (range_with_len 0 n)
 
--- a memory that holds these words
+-- a memory that was written with these words
 abbrev pub thrice : List ℕ → List ℕ
 thrice ws = ws ++ (ws ++ ws)
+
+-- how many numbers n words take
+abbrev pub size : ℕ → ℕ
+size n = 3 * n
 
 abbrev pub Holds : ℕ → List ℕ → List ℕ → Type 0
 Holds n m ws = (length ws ≡ n) × (m ≡ thrice ws)
@@ -35,11 +39,13 @@ pub record Upset (n : ℕ) (m h : List ℕ) : Type 0 where
 
 -- n words kept three times
 abbrev pub threefold : ℕ → Keeper
-threefold n = record { Memory = List ℕ; read = voted_words n; Holds = Holds n; Upset = Upset n }
-
--- an upset in one copy of each word at most is voted away
-abbrev pub VotesMend : Type 0
-VotesMend = (n : ℕ) → Mends (threefold n)
+threefold n = record {
+  size = size n;
+  read = voted_words n;
+  stored = thrice;
+  Holds = Holds n;
+  Upset = Upset n;
+}
 
 -- upsets do happen: none at all is one, and so is any number in any one copy of a word that had been spared so far
 pub record UpsetsHappen : Type 0 where

@@ -2,30 +2,34 @@
 
 #![tactic(auto)]
 
-ghost use Rattle.std.specs.Prelude.{◌≡◌, ◌+◌, ◌*◌, ◌<◌, length, take};
-ghost use Rattle.memory.specs.Threefold.{majority, voted, voted_words, thrice, VotesMend, UpsetsHappen};
+ghost use Rattle.std.specs.Prelude.{◌≡◌, ◌<◌, length, take};
+ghost use Rattle.memory.specs.Threefold.{majority, voted, voted_words, thrice, size, UpsetsHappen};
+ghost use Rattle.memory.specs.Kept.{KeepsWords};
 
-/// Of three copies the number on which two agree, the first if none do.
-pub fn vote(a: u64, b: u64, c: u64) -> u64
+/// How many numbers of memory a word takes.
+pub const PER_WORD: usize = 3;
+
+// Of three copies the number on which two agree, the first if none do.
+fn vote(a: u64, b: u64, c: u64) -> u64
     ensures { result ≡ majority a b c }
 {
     // Where b and c differ, a is either in a majority or the first of three that differ.
     if b == c { b } else { a }
 }
 
-/// The lent numbers of N words, read three at a time.
+/// The lent numbers in which N words are kept.
 #[derive(Clone, Copy)]
-pub struct Copies<'a, const N: usize> {
+pub struct Kept<'a, const N: usize> {
     numbers: &'a [u64],
-    ghost whole: { length numbers.now ≡ 3 * N },
+    ghost whole: { length numbers.now ≡ size N },
 }
 
-impl<'a, const N: usize> Copies<'a, N> {
+impl<'a, const N: usize> Kept<'a, N> {
     pub fn new(numbers: &'a [u64]) -> Self
-        requires { length numbers.now ≡ 3 * N }
+        requires { length numbers.now ≡ size N }
         ensures { result.numbers.now ≡ numbers.now }
     {
-        Copies { numbers }
+        Kept { numbers }
     }
 
     // Word k as two of its three copies have it.
@@ -51,9 +55,9 @@ impl<'a, const N: usize> Copies<'a, N> {
     }
 }
 
-/// Writes the second and third copy of each word after the first.
-pub fn repeat<const N: usize>(memory: &mut [u64])
-    requires { length memory.old ≡ 3 * N }
+/// Keeps the words that stand first in memory: behind them it writes what guards them, their second and third copy.
+pub fn keep<const N: usize>(memory: &mut [u64])
+    requires { length memory.old ≡ size N }
     ensures { memory.new ≡ thrice (take N memory.old) }
 {
     let (first, others) = memory.split_at_mut(N);
@@ -62,12 +66,25 @@ pub fn repeat<const N: usize>(memory: &mut [u64])
     third.copy_from_slice(first);
 }
 
-/// An upset in one copy of each word at most is voted away.
-pub fn votes_mend()
-    ensures { VotesMend }
+/// An upset in one copy of each word at most is voted away, and what was written is kept.
+pub fn keeps_words()
+    ensures { KeepsWords }
 {}
 
 /// There are such upsets, in every copy of every word.
 pub fn upsets_happen()
     ensures { UpsetsHappen }
 {}
+
+#[cfg(test)]
+mod tests {
+    use super::*;
+
+    #[test]
+    fn two_of_three(rt: HostRuntime) {
+        assert_eq!(rt; vote(7, 7, 9), 7);
+        assert_eq!(rt; vote(9, 7, 7), 7);
+        assert_eq!(rt; vote(7, 9, 7), 7);
+        assert_eq!(rt; vote(7, 8, 9), 7);
+    }
+}

@@ -12,7 +12,7 @@ use Rattle.flight.specs.Flight.{after, Flew}
 use Rattle.flight.specs.Scheduling.{Among, here, there}
 use Rattle.flight.proofs.Waits.{among_cons}
 use Rattle.text.specs.declared.event.Event.{Event}
-use Rattle.onboard.specs.declared.Refusal.{Refusal}
+use Rattle.refusal.specs.declared.Refusal.{Refusal}
 use Rattle.mission.specs.declared.aloft.Aloft.{Aloft}
 use Rattle.mission.specs.declared.aloft.Output.{Output}
 use Rattle.mission.specs.Steps.{with_reading, with_frame, up_frame, with_hit, heard_of, output_of, Ticks, Steps, and_then, Ran, launched, stepped}

@@ -9,7 +9,7 @@ use Rattle.text.specs.declared.fault.Fault.{Fault}
 use Rattle.text.specs.declared.fault.Fault.TheVariants as fault
 use Rattle.text.specs.declared.statement.Statements.{Statements}
 use Rattle.text.specs.Lines.{reads_next}
-use Rattle.text.specs.Text.{flights, Told, Failed}
+use Rattle.text.specs.Text.{flights, Tells, Fails}
 use Rattle.text.proofs.Once.{event_readable, told_once, told_faultless}
 use Rattle.text.proofs.Telling.{Until, fails, silent, said}
 use Rattle.text.proofs.Writing.{put_more, put_is}
@@ -65,7 +65,7 @@ module _ {W : Type 0} (took : W → List ℕ → W → Type 0) where
   }
 
   module _ (text : List ℕ) (s t : Statements Event) (aloft : Aloft) (f g : Formatter W) (u : Underway text s aloft f g) (r : Result (Option Event) Fault) (steps : reads_next flights s (Some r) t) where
-    pub faulty : (x : Fault) → r ≡ Err x → Failed text x
+    pub faulty : (x : Fault) → r ≡ Err x → Fails flights text x
     faulty x e = fails flights event_readable text s t u.events u.sofar r steps x e
 
     pub passed : r ≡ Ok None → Underway text t aloft f g
@@ -90,7 +90,7 @@ module _ {W : Type 0} (took : W → List ℕ → W → Type 0) where
       put_is took f _ _ g (ap told (sym (reverse-reverse x.outputs) ∙ ap reverse right.told)) x.written
 
 -- a text that has been checked has no line at fault, so that where one is said to be, nothing was written
-pub untouched : {W : Type 0} (text : List ℕ) (es : List Event) → Told text es → (r : Failure) (f g : Formatter W) → Broke text r → Untouched r f g
+pub untouched : {W : Type 0} (text : List ℕ) (es : List Event) → Tells flights text es → (r : Failure) (f g : Formatter W) → Broke text r → Untouched r f g
 unfolding LineFault
 untouched text es t (failure.Unread (fault.Unreadable n x)) f g b = absurd (faulty (told_faultless flights text es t (fault.Unreadable n x) b))
   where
@@ -101,7 +101,7 @@ untouched text es t failure.Unwritten f g b = tt
 
 -- a run of a text that has been checked
 module _ {W : Type 0} (took : W → List ℕ → W → Type 0) (text : List ℕ) (f g : Formatter W) where
-  pub whole_run : (es : List Event) → Told text es → (r : Result (Unit {0}) Failure) → MatchResult r (λ _. IsPlainFormatter f → FlownThrough took text f g) (λ x. Broke text x) → MatchResult r (λ _. IsPlainFormatter f → FlownThrough took text f g) (λ x. Broke text x × Untouched x f g)
+  pub whole_run : (es : List Event) → Tells flights text es → (r : Result (Unit {0}) Failure) → MatchResult r (λ _. IsPlainFormatter f → FlownThrough took text f g) (λ x. Broke text x) → MatchResult r (λ _. IsPlainFormatter f → FlownThrough took text f g) (λ x. Broke text x × Untouched x f g)
   whole_run es t (Ok u) h = h
   whole_run es t (Err x) h = (h, untouched text es t x f g h)
 

@@ -1,10 +1,10 @@
--- What each event of a flight text does to the satellite's memory and to what its next tick is given.
+-- What each event of a flight text does to the satellite's memory and to what its next tick gets.
 use Rattle.std.specs.Prelude.{◌≡◌, ℕ, ◌+◌, ◌*◌, cond, ◌&&◌, ◌⊎◌, List, [], ◌∷◌, length, replicate, Some, None, Ok, Err, Option, Result, nat_lt, slice_set}
 use Rattle.frame.specs.declared.Command.{Command}
 use Rattle.frame.specs.Frame.{encoding}
 use Rattle.layout.specs.Map.{word_count}
 use Rattle.text.specs.declared.event.Event.{Event}
-use Rattle.onboard.specs.declared.Refusal.{Refusal}
+use Rattle.refusal.specs.declared.Refusal.{Refusal}
 use Rattle.onboard.specs.Entry.{Says, GoesOn}
 use Rattle.flight.specs.Flight.{Flew}
 use Rattle.mission.specs.declared.aloft.Aloft.{Aloft}
@@ -37,7 +37,8 @@ output_of (Ok u) report = record { 0 = Ok report }
 output_of (Err r) report = record { 0 = Err r }
 
 -- a call of the entry does what its contract says, both that of any memory and that of flights
-pub record Calls (a : Aloft) (done : Result (Unit {0}) Refusal) (memory report : List ℕ) : Type 0 where
+pub record Calls (a : Aloft) (done : Result (Unit {0}) Refusal) (memory report : List ℕ)
+    : Type 0 where
   pub readings : length a.readings ≡ 16
   pub frame : (length (heard_of a.frame) ≡ 0) ⊎ (length (heard_of a.frame) ≡ 12)
   pub says : Says done a.memory a.readings (heard_of a.frame) (replicate 8 0) memory report
@@ -53,8 +54,10 @@ pub record Ticks (a b : Aloft) (o : Output) : Type 0 where
   pub frame : b.frame ≡ None
 
 abbrev pub Steps : Aloft → Event → Aloft → Option Output → Type 0
-Steps a (Event.Read i v) b o = (o ≡ None) × (b ≡ record a { readings = with_reading i v a.readings })
-Steps a (Event.Up n c) b o = (o ≡ None) × (b ≡ record a { frame = with_frame (up_frame n c) a.frame })
+Steps a (Event.Read i v) b o =
+    (o ≡ None) × (b ≡ record a { readings = with_reading i v a.readings })
+Steps a (Event.Up n c) b o =
+    (o ≡ None) × (b ≡ record a { frame = with_frame (up_frame n c) a.frame })
 Steps a (Event.Frame f) b o = (o ≡ None) × (b ≡ record a { frame = Some f })
 Steps a (Event.Hit c w v) b o = (o ≡ None) × (b ≡ record a { memory = with_hit c w v a.memory })
 Steps a Event.Tick b o = (x : Output) × (o ≡ Some x) × Ticks a b x
@@ -63,7 +66,10 @@ abbrev pub and_then : Option Output → List Output → List Output
 and_then None os = os
 and_then (Some o) os = o ∷ os
 
--- from launch, after these events, the latest first, it is aloft like this and gave these outputs, the latest first
+-- from launch, after these events, the latest first, it is aloft like this and gave these outputs,
+-- the latest first
 pub data Ran : List Event → Aloft → List Output → Type 0 where
-  launched : (a : Aloft) → Flew [] a.memory → a.readings ≡ replicate 16 0 → a.frame ≡ None → Ran [] a []
-  stepped : (e : Event) (es : List Event) (a b : Aloft) (o : Option Output) (os : List Output) → Ran es a os → Steps a e b o → Ran (e ∷ es) b (and_then o os)
+  launched : (a : Aloft) → Flew [] a.memory → a.readings ≡ replicate 16 0 → a.frame ≡ None →
+      Ran [] a []
+  stepped : (e : Event) (es : List Event) (a b : Aloft) (o : Option Output)
+      (os : List Output) → Ran es a os → Steps a e b o → Ran (e ∷ es) b (and_then o os)

@@ -1,4 +1,5 @@
--- The story of a flight text: what would be reported if there were no radiation. Events are given latest first.
+-- The story of a flight text: what would be reported if there were no radiation. Events are given
+-- latest first.
 use Rattle.std.specs.Prelude.{◌≡◌, ℕ, cond, ◌&&◌, List, [], ◌∷◌, replicate, Some, None, Ok, Option, nat_lt}
 use Rattle.layout.specs.Map.{word_count}
 use Rattle.telemetry.specs.Reports.{report_of, numbers_of}
@@ -33,7 +34,8 @@ history (Event.Read i v ∷ es) = history es
 history (Event.Up n c ∷ es) = history es
 history (Event.Frame f ∷ es) = history es
 history (Event.Hit c w v ∷ es) = history es
-history (Event.Tick ∷ es) = record { readings = readings_of es; frame = heard_of (frame_of es) } ∷ history es
+history (Event.Tick ∷ es) =
+    record { readings = readings_of es; frame = heard_of (frame_of es) } ∷ history es
 
 -- the report of each tick
 abbrev pub reports : List Event → List Output
@@ -42,7 +44,8 @@ reports (Event.Read i v ∷ es) = reports es
 reports (Event.Up n c ∷ es) = reports es
 reports (Event.Frame f ∷ es) = reports es
 reports (Event.Hit c w v ∷ es) = reports es
-reports (Event.Tick ∷ es) = record { 0 = Ok (numbers_of (report_of (after (history (Event.Tick ∷ es))))) } ∷ reports es
+reports (Event.Tick ∷ es) =
+    record { 0 = Ok (numbers_of (report_of (after (history (Event.Tick ∷ es))))) } ∷ reports es
 
 -- a copy of a word that was hit
 pub record Struck : Type 0 where
@@ -55,7 +58,8 @@ hits [] = []
 hits (Event.Read i v ∷ es) = hits es
 hits (Event.Up n c ∷ es) = hits es
 hits (Event.Frame f ∷ es) = hits es
-hits (Event.Hit c w v ∷ es) = cond (nat_lt c 3 && nat_lt w word_count) (record { copy = c; word = w } ∷ hits es) (hits es)
+hits (Event.Hit c w v ∷ es) =
+    cond (nat_lt c 3 && nat_lt w word_count) (record { copy = c; word = w } ∷ hits es) (hits es)
 hits (Event.Tick ∷ es) = []
 
 -- between two ticks no word is hit in two of its copies
@@ -64,5 +68,6 @@ Tolerated [] = Unit {0}
 Tolerated (Event.Read i v ∷ es) = Tolerated es
 Tolerated (Event.Up n c ∷ es) = Tolerated es
 Tolerated (Event.Frame f ∷ es) = Tolerated es
-Tolerated (Event.Hit c w v ∷ es) = Tolerated es × ((s : Struck) → Among s (hits es) → s.word ≡ w → s.copy ≡ c)
+Tolerated (Event.Hit c w v ∷ es) =
+    Tolerated es × ((s : Struck) → Among s (hits es) → s.word ≡ w → s.copy ≡ c)
 Tolerated (Event.Tick ∷ es) = Tolerated es

@@ -1,14 +1,15 @@
 ghost use Rattle.std.specs.Prelude.{Some};
 ghost use Rattle.mission.specs.Lines.{line_of};
 
-use onboard::Refusal;
+use onboard::MEMORY_LENGTH;
+use refusal::Refusal;
 use std::fmt;
 use text::list;
 
 /// A satellite in flight: its memory, and what its next tick will be given.
 #[derive(Clone, Copy)]
 pub struct Aloft {
-    pub memory: [u64; 882],
+    pub memory: [u64; MEMORY_LENGTH],
     pub readings: [u16; 16],
     pub frame: Option<[u64; 12]>,
 }
@@ -29,7 +30,7 @@ impl fmt::Display for Output {
                 write!(f, "{first}")?;
                 list(&numbers[1..], f)
             }
-            Err(refusal) => write!(f, "refused {refusal}"),
+            Err(refusal) => write!(f, "{refusal}"),
         }
     }
 }

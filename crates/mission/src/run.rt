@@ -11,7 +11,8 @@ use text::Event;
 /// Where the hits are tolerated, these are the story's reports.
 pub fn fly(heap: Global, events: &[Event]) -> Result<Vec<Output>, AllocError>
     ensures ran { IfOk result (λ v. (b : Aloft) × Ran (reverse events.now) b (reverse v.items)) }
-    ensures flies { IfOk result (λ v. Tolerated (reverse events.now) → length events.now < most → reverse v.items ≡ reports (reverse events.now)) }
+    ensures flies { IfOk result (λ v. Tolerated (reverse events.now) →
+        length events.now < most → reverse v.items ≡ reports (reverse events.now)) }
 {
     let mut outputs = Vec::new(heap);
     let mut aloft = Aloft::launched();

@@ -5,7 +5,7 @@ ghost use Rattle.mission.specs.Steps.{with_reading, with_frame, up_frame, with_h
 use crate::aloft::{Aloft, Output};
 use frame::{Command, Telecommand, encode};
 use layout::WORDS;
-use onboard::{launch, tick};
+use onboard::{MEMORY_LENGTH, launch, tick};
 use parameters::INSTRUMENTS;
 use text::Event;
 
@@ -16,7 +16,7 @@ impl Aloft {
         ensures readings { result.readings ≡ replicate 16 0 }
         ensures frame { result.frame ≡ None }
     {
-        let mut memory = [0; 3 * WORDS];
+        let mut memory = [0; MEMORY_LENGTH];
         let _ = launch(&mut memory);
         Aloft {
             memory,
@@ -41,7 +41,8 @@ impl Aloft {
 
     // An instrument reads a value in the next tick.
     fn read(&mut self, instrument: u64, value: u64)
-        ensures { self.new ≡ record self.old { readings = with_reading instrument value self.old.readings } }
+        ensures { self.new ≡
+            record self.old { readings = with_reading instrument value self.old.readings } }
     {
         if instrument < 16 && value < 0x1_0000 {
             self.readings[instrument as usize] = value as u16;
@@ -50,7 +51,8 @@ impl Aloft {
 
     // The frame of a telecommand comes up in the next tick.
     fn up(&mut self, number: u64, command: Command)
-        ensures { self.new ≡ record self.old { frame = with_frame (up_frame number command) self.old.frame } }
+        ensures { self.new ≡
+            record self.old { frame = with_frame (up_frame number command) self.old.frame } }
     {
         if let Some(frame) = encode(Telecommand { number, command }) {
             self.hear(frame);
@@ -66,14 +68,15 @@ impl Aloft {
 
     // Radiation changes a copy of a word.
     fn hit(&mut self, copy: u64, word: u64, value: u64)
-        ensures { self.new ≡ record self.old { memory = with_hit copy word value self.old.memory } }
+        ensures { self.new ≡
+            record self.old { memory = with_hit copy word value self.old.memory } }
     {
         if copy < 3 && word < WORDS as u64 {
             self.memory[copy as usize * WORDS + word as usize] = value;
         }
     }
 
-    // Calls the on-board program with what was said of this tick. Nothing is said of the next one yet.
+    // Calls the on-board program with what was said of this tick. Nothing is said of the next yet.
     fn tick(&mut self) -> Output
         ensures { Ticks self.old self.new result }
     {

@@ -42,15 +42,19 @@ impl From<fmt::Error> for Failure {
     }
 }
 
-/// Flies a text from launch and writes a line for each tick, as it goes. The whole text is read once before
-/// anything flies, and nothing of it is kept. Where the hits are tolerated, the lines are the story's reports.
+/// Flies a text from launch and writes a line for each tick, as it goes. The whole text is read
+/// once before anything flies, and nothing of it is kept. Where the hits are tolerated, the lines
+/// are the story's reports.
 pub fn fly_lines<W: fmt::Write>(
     heap: Global,
     text: &[u8],
     out: &mut fmt::Formatter<W>,
 ) -> Result<(), Failure>
-    ensures flown { MatchResult result (λ _. IsPlainFormatter out.old → Flown W.Write.write_str_gives text.now out.old out.new) (λ f. Broke text.now f × Untouched f out.old out.new) }
-    ensures flies { OnOk result (IsPlainFormatter out.old → Storied W.Write.write_str_gives text.now out.old out.new) }
+    ensures flown { MatchResult result (λ _. IsPlainFormatter out.old →
+        FlownThrough W.Write.write_str_gives text.now out.old out.new)
+        (λ f. Broke text.now f × Untouched f out.old out.new) }
+    ensures flies { OnOk result (IsPlainFormatter out.old →
+        Storied W.Write.write_str_gives text.now out.old out.new) }
 {
     check(heap, text)?;
     run(heap, text, out)
@@ -58,7 +62,8 @@ pub fn fly_lines<W: fmt::Write>(
 
 // Flies a text, line by line, and writes what each tick gives.
 fn run<W: fmt::Write>(heap: Global, text: &[u8], out: &mut fmt::Formatter<W>) -> Result<(), Failure>
-    ensures { MatchResult result (λ _. IsPlainFormatter out.old → Flown W.Write.write_str_gives text.now out.old out.new) (λ f. Broke text.now f) }
+    ensures { MatchResult result (λ _. IsPlainFormatter out.old →
+        FlownThrough W.Write.write_str_gives text.now out.old out.new) (Broke text.now) }
 {
     let mut aloft = Aloft::launched();
     for read in Statements::<Event>::new(heap, text) {

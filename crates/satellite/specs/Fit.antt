@@ -8,7 +8,8 @@ use Rattle.satellite.specs.State.{State, rule, count}
 abbrev pub most : ℕ
 most = 4611686018427387904
 
--- a rule watches a parameter, and if it is on and does not put to safe mode it puts at a place that there is
+-- a rule watches a parameter, and if it is on and does not put to safe mode it puts at a place
+-- that there is
 pub record RuleFit (r : Rule) : Type 0 where
   pub watches : r.watches < 64
   pub puts : 1 ≤ r.needs → r.safes ≡ false → r.place < 64

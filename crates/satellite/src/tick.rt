@@ -2,9 +2,11 @@ ghost use Rattle.std.specs.Prelude.{◌≡◌, ◌<◌, ◌≤◌, false};
 ghost use Rattle.schedule.specs.Waiting.{Placed, waiting};
 ghost use Rattle.frame.specs.Frame.{decoded};
 ghost use Rattle.satellite.specs.State.{at_launch, rule, count};
-ghost use Rattle.satellite.specs.Story.{begun, looked, acted, watched_one, watched, released, heeded, ticked};
+ghost use Rattle.satellite.specs.Story.{came_up, begun, looked, acted, watched_one, watched, released, heeded, ticked};
 ghost use Rattle.satellite.specs.Fit.{Fit, RuleFit, RulesFit, most};
 ghost use Rattle.satellite.specs.Model.{model};
+
+mod commands;
 
 use crate::state::Satellite;
 use frame::decode;
@@ -30,10 +32,11 @@ impl Satellite {
     }
 
     /// One tick: time and readings, rules, activities that are due, and then the command of the
-    /// frame that came up, if it is whole.
-    pub fn tick(self, readings: &[u16; 16], frame: &[u64]) -> Satellite
+    /// frame that came up, if one did and it is whole.
+    pub fn tick(self, readings: &[u16; 16], frame: Option<&[u64; frame::LENGTH]>) -> Satellite
         requires { Fit (model self) }
-        ensures { model result ≡ ticked (record { readings = readings.now; frame = frame.now }) (model self) }
+        ensures { model result ≡
+            ticked (record { readings = readings.now; frame = came_up frame.entry }) (model self) }
     {
         self.begin(readings).watch().release().hear(frame)
     }
@@ -124,22 +127,22 @@ impl Satellite {
     }
 
     // The command of the frame that came up is obeyed, if the frame is whole.
-    fn hear(mut self, frame: &[u64]) -> Satellite
+    fn hear(mut self, frame: Option<&[u64; frame::LENGTH]>) -> Satellite
         requires low_expected { self.expected ≤ most }
         requires low_rejected { self.rejected ≤ most }
-        ensures { model result ≡ heeded (decoded frame.now) (model self) }
+        ensures { model result ≡ heeded (decoded (came_up frame.entry)) (model self) }
     {
         self.receive(frame);
         self
     }
 
     #[inline(never)]
-    fn receive(&mut self, frame: &[u64])
+    fn receive(&mut self, frame: Option<&[u64; frame::LENGTH]>)
         requires low_expected { self.old.expected ≤ most }
         requires low_rejected { self.old.rejected ≤ most }
-        ensures { model self.new ≡ heeded (decoded frame.now) (model self.old) }
+        ensures { model self.new ≡ heeded (decoded (came_up frame.entry)) (model self.old) }
     {
-        let Some(telecommand) = decode(frame) else {
+        let Some(telecommand) = frame.and_then(decode) else {
             return;
         };
         self.obey(telecommand);

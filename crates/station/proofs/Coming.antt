@@ -4,13 +4,13 @@ use Rattle.std.proofs.lemmas.List.{append_assoc, length-take-le, take_all}
 use Rattle.std.proofs.lemmas.Bool.{cases_lt, cases_Bool, ltb-true, cond-true, cond-false}
 use Rattle.frame.specs.declared.Command.{Command}
 use Rattle.frame.specs.declared.Telecommand.{Telecommand}
+use Rattle.frame.specs.File.{telecommand_of, Sendable}
 use Rattle.frame.specs.Frame.{decoded, encodable, encoded, encoding}
 use Rattle.frame.proofs.Back.{round_trip}
 use Rattle.satellite.specs.Story.{Inputs}
 use Rattle.flight.specs.Flight.{after}
 use Rattle.flight.specs.Commanding.{heard}
 use Rattle.flight.proofs.Commanded as commanded
-use Rattle.station.specs.Line.{telecommand_of, Sendable}
 use Rattle.station.specs.Passes.{Names, ComesThrough, Brings, now, before, Delivers, AllObeyed}
 use Rattle.station.proofs.Knowing.{within_file, expected_grows, surely_obeyed}
 

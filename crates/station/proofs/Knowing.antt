@@ -22,7 +22,7 @@ from_ground cs [] f = tt
 from_ground cs (i ∷ is) f = ((λ t e. ap (λ (u : Telecommand). u.command) (f.0 t e).1), from_ground cs is f.1)
 
 -- one tick moves the expected number on by one at most, and only if that command came up
-tick_expected : (P : ℕ → Type 0) (i : Inputs) (is : List Inputs) → P (after is).expected → ((t : Telecommand) → heard i is ≡ Some t → t.number ≡ (after is).expected → P (suc (after is).expected)) → P (after (i ∷ is)).expected
+pub tick_expected : (P : ℕ → Type 0) (i : Inputs) (is : List Inputs) → P (after is).expected → ((t : Telecommand) → heard i is ≡ Some t → t.number ≡ (after is).expected → P (suc (after is).expected)) → P (after (i ∷ is)).expected
 tick_expected P i is stays moves =
     let r = at_reception i (after is) in
     let k = expected_kept i (after is) in

@@ -1,14 +1,9 @@
 -- The ground's end of the line: which frame it sends next, and what it knows.
-use Rattle.std.specs.Prelude.{◌≡◌, ℕ, ◌<◌, true, cond, List, length, Some, None, Option, nat_lt, slice_index_or}
+use Rattle.std.specs.Prelude.{ℕ, cond, List, length, Some, None, Option, nat_lt}
 use Rattle.frame.specs.declared.Command.{Command}
-use Rattle.frame.specs.declared.Command.TheVariants.{Sleep}
-use Rattle.frame.specs.declared.Telecommand.{Telecommand}
-use Rattle.frame.specs.Frame.{encodable, encoding}
+use Rattle.frame.specs.File.{telecommand_of}
+use Rattle.frame.specs.Frame.{encoding}
 use Rattle.telemetry.specs.declared.Report.{Report}
-
--- command n of a file, with its number
-abbrev pub telecommand_of : List Command → ℕ → Telecommand
-telecommand_of cs n = record { number = n; command = slice_index_or cs n Sleep }
 
 -- the frame of command n, none if the file ends before it
 abbrev pub frame_for : List Command → ℕ → Option (List ℕ)
@@ -27,7 +22,3 @@ rejected_of (Some r) = r.rejected
 abbrev pub later_of : Option Report → Report → Report
 later_of None r = r
 later_of (Some l) r = cond (nat_lt r.time l.time) l r
-
--- a file whose commands can all be sent
-abbrev pub Sendable : List Command → Type 0
-Sendable cs = (n : ℕ) → n < length cs → encodable (telecommand_of cs n) ≡ true

@@ -1,15 +1,17 @@
-//! The ground's side: from a file of commands and the reports heard so far, which frame to send next and what is surely so.
+//! The ground's side: from a file of commands and the reports heard so far, which frame to send
+//! next and what is surely so.
 
 #![tactic(auto)]
 
 ghost use Rattle.std.specs.Prelude.{◌≡◌, Some, None};
 ghost use Rattle.station.specs.Line.{frame_for, expected_of, rejected_of, later_of};
 ghost use Rattle.station.specs.Passes.{SurelyObeyed, ComesThrough, AllObeyed};
+ghost use Rattle.station.specs.Relay.{DeliveredOver, CanDeliver};
 
 use frame::{Command, Telecommand, encode};
 use telemetry::Report;
 
-/// A file of commands, telecommand_of from 0, and the latest report heard.
+/// A file of commands, numbered from 0, and the latest report heard.
 #[derive(Drop)]
 pub struct Station {
     commands: Vec<Command>,
@@ -38,7 +40,7 @@ impl Station {
         }
     }
 
-    /// The frame to send next: of the command that the latest report expects; none if none is left.
+    /// The frame to send next: of the command that the latest report expects; none past the last.
     pub fn next_frame(&self) -> Option<[u64; 12]>
         ensures { result ≡ frame_for self.now.commands.items (expected_of self.now.latest) }
     {
@@ -53,7 +55,8 @@ impl Station {
         encode(Telecommand { number, command })
     }
 
-    /// How many of the first commands are surely obeyed: all below the number that the latest report expects.
+    /// How many of the first commands are surely obeyed: all below the number that the latest
+    /// report expects.
     pub fn surely_obeyed(&self) -> u64
         ensures { result ≡ expected_of self.now.latest }
     {
@@ -88,4 +91,12 @@ pub fn comes_through()
 /// Over a line that brings one frame in any d ticks, n commands are obeyed in at most d * n ticks.
 pub fn all_obeyed()
     ensures { AllObeyed }
+{}
+
+/// There are flights over such a line: one over each line that is up once at least in any d ticks,
+/// where the ground sends in each tick the frame that it names; so one for each file that can be
+/// sent, which obeys it all.
+pub fn delivered_over()
+    ensures over { DeliveredOver }
+    ensures exists { CanDeliver }
 {}

@@ -6,3 +6,4 @@ pub mod Undoing
 pub mod Writing
 pub mod Back
 pub mod Once
+pub mod Sending

@@ -5,7 +5,7 @@ use Rattle.std.proofs.lemmas.Bool.{false≢true}
 use Rattle.rules.specs.Numbers.{bit}
 use Rattle.frame.specs.declared.Command.{Command}
 use Rattle.text.specs.declared.words.Word.{Word}
-use Rattle.text.specs.declared.words.Word.TheVariants.{Number, Read, Up, Frame, Hit, Tick, Put, Later, Forget, Sleep, Wake, Rule, Other}
+use Rattle.text.specs.declared.words.Keyword.{Keyword}
 use Rattle.text.specs.declared.event.Event.{Event}
 use Rattle.text.specs.Table.{command_words, event_words, amount, Found, Finds}
 
@@ -17,25 +17,19 @@ pub num : Word → ℕ
 num w = or_zero (amount w)
 
 nth : List Word → ℕ → ℕ
-nth ws i = num (get_or ws i Other)
+nth ws i = num (get_or ws i Word.Other)
 
 command_named : Word → List Word → Command
-command_named (Number n) ws = Command.Sleep
-command_named Read ws = Command.Sleep
-command_named Up ws = Command.Sleep
-command_named Frame ws = Command.Sleep
-command_named Hit ws = Command.Sleep
-command_named Tick ws = Command.Sleep
-command_named Put ws = Command.Put (nth ws 1) (nth ws 2)
-command_named Later ws = Command.Later (record { release = nth ws 1; place = nth ws 2; number = nth ws 3 })
-command_named Forget ws = Command.Forget
-command_named Sleep ws = Command.Sleep
-command_named Wake ws = Command.Wake
-command_named Rule ws = Command.SetRule (nth ws 1) (record { watches = nth ws 2; limit = nth ws 3; upward = eqb (nth ws 4) 1; needs = nth ws 5; safes = eqb (nth ws 6) 1; place = nth ws 7; number = nth ws 8 })
-command_named Other ws = Command.Unknown (nth ws 1)
+command_named (Word.Keyword Keyword.Put) ws = Command.Put (nth ws 1) (nth ws 2)
+command_named (Word.Keyword Keyword.Later) ws = Command.Later (record { release = nth ws 1; place = nth ws 2; number = nth ws 3 })
+command_named (Word.Keyword Keyword.Forget) ws = Command.Forget
+command_named (Word.Keyword Keyword.Sleep) ws = Command.Sleep
+command_named (Word.Keyword Keyword.Wake) ws = Command.Wake
+command_named (Word.Keyword Keyword.Rule) ws = Command.SetRule (nth ws 1) (record { watches = nth ws 2; limit = nth ws 3; upward = eqb (nth ws 4) 1; needs = nth ws 5; safes = eqb (nth ws 6) 1; place = nth ws 7; number = nth ws 8 })
+command_named _ ws = Command.Unknown (nth ws 1)
 
 pub command_back : List Word → Command
-command_back ws = command_named (get_or ws 0 Other) ws
+command_back ws = command_named (get_or ws 0 Word.Other) ws
 
 mark_back : (b : Bool) → eqb (bit b) 1 ≡ b
 mark_back true = refl
@@ -43,33 +37,20 @@ mark_back false = refl
 
 pub command_undo : (c : Command) → command_back (command_words c) ≡ c
 unfolding command_back command_named nth num or_zero
-command_undo (Command.Put a b) = refl
-command_undo (Command.Later a) = refl
-command_undo Command.Forget = refl
-command_undo Command.Sleep = refl
-command_undo Command.Wake = refl
 command_undo (Command.SetRule k r) = λ i. Command.SetRule k (record { watches = r.watches; limit = r.limit; upward = mark_back r.upward i; needs = r.needs; safes = mark_back r.safes i; place = r.place; number = r.number })
-command_undo (Command.Unknown k) = refl
+command_undo _ = refl
 
 event_named : Word → List Word → Event
-event_named (Number n) ws = Event.Tick
-event_named Read ws = Event.Read (nth ws 1) (nth ws 2)
-event_named Up ws = Event.Up (nth ws 1) (command_back (drop 2 ws))
-event_named Frame ws = Event.Frame (map num (drop 1 ws))
-event_named Hit ws = Event.Hit (nth ws 1) (nth ws 2) (nth ws 3)
-event_named Tick ws = Event.Tick
-event_named Put ws = Event.Tick
-event_named Later ws = Event.Tick
-event_named Forget ws = Event.Tick
-event_named Sleep ws = Event.Tick
-event_named Wake ws = Event.Tick
-event_named Rule ws = Event.Tick
-event_named Other ws = Event.Tick
+event_named (Word.Keyword Keyword.Read) ws = Event.Read (nth ws 1) (nth ws 2)
+event_named (Word.Keyword Keyword.Up) ws = Event.Up (nth ws 1) (command_back (drop 2 ws))
+event_named (Word.Keyword Keyword.Frame) ws = Event.Frame (map num (drop 1 ws))
+event_named (Word.Keyword Keyword.Hit) ws = Event.Hit (nth ws 1) (nth ws 2) (nth ws 3)
+event_named _ ws = Event.Tick
 
 pub event_back : List Word → Event
-event_back ws = event_named (get_or ws 0 Other) ws
+event_back ws = event_named (get_or ws 0 Word.Other) ws
 
-pub all_num : (xs : List ℕ) → map num (map Number xs) ≡ xs
+pub all_num : (xs : List ℕ) → map num (map Word.Number xs) ≡ xs
 unfolding num or_zero
 all_num [] = refl
 all_num (x ∷ xs) = ap (λ (l : List ℕ). x ∷ l) (all_num xs)
@@ -92,18 +73,13 @@ module _ {E : Type 0} (table : E → List Word) (passes : E → Bool) (back : Li
   finds None r f e = subst (Finds table passes ws) (sym e) f
   finds (Some d) r f e = subst (Finds table passes ws) (sym e) (passed_by d (passes d) refl f)
 
+some_word : (w : Word) (ws : List Word) → w ∷ ws ≡ [] → ⊥
+some_word w ws h = let z : ◌≡◌ {A = ℕ} 0 1 = cc in omega arith
+
 pub event_some : (e : Event) → event_words e ≡ [] → ⊥
-event_some (Event.Read i v) h = let z : ◌≡◌ {A = ℕ} 0 1 = cc in omega arith
-event_some (Event.Up n c) h = let z : ◌≡◌ {A = ℕ} 0 1 = cc in omega arith
-event_some (Event.Frame xs) h = let z : ◌≡◌ {A = ℕ} 0 1 = cc in omega arith
-event_some (Event.Hit c w v) h = let z : ◌≡◌ {A = ℕ} 0 1 = cc in omega arith
-event_some Event.Tick h = let z : ◌≡◌ {A = ℕ} 0 1 = cc in omega arith
+event_some Event.Tick = some_word _ _
+event_some _ = some_word _ _
 
 pub command_some : (c : Command) → command_words c ≡ [] → ⊥
-command_some (Command.Put a b) h = let z : ◌≡◌ {A = ℕ} 0 1 = cc in omega arith
-command_some (Command.Later a) h = let z : ◌≡◌ {A = ℕ} 0 1 = cc in omega arith
-command_some Command.Forget h = let z : ◌≡◌ {A = ℕ} 0 1 = cc in omega arith
-command_some Command.Sleep h = let z : ◌≡◌ {A = ℕ} 0 1 = cc in omega arith
-command_some Command.Wake h = let z : ◌≡◌ {A = ℕ} 0 1 = cc in omega arith
-command_some (Command.SetRule k r) h = let z : ◌≡◌ {A = ℕ} 0 1 = cc in omega arith
-command_some (Command.Unknown k) h = let z : ◌≡◌ {A = ℕ} 0 1 = cc in omega arith
+command_some (Command.Unknown k) = some_word _ _
+command_some _ = some_word _ _

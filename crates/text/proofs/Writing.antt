@@ -5,7 +5,6 @@ use Rattle.std.specs.Fmt.{HasWritten}
 use Rattle.std.specs.declared.fmt.Formatter.{Formatter}
 use Rattle.std.proofs.lemmas.List.{take_more, take_all}
 use Rattle.text.specs.declared.words.Word.{Word}
-use Rattle.text.specs.declared.words.Word.TheVariants.{Number}
 use Rattle.text.specs.Render.{listed}
 use Rattle.text.specs.Words.{written, spelt}
 
@@ -45,9 +44,9 @@ pub listed_all : (xs : List ℕ) (i : ℕ) → length xs ≤ i → listed (take 
 listed_all xs i l = ap listed (take_all i xs l)
 
 -- a word and numbers, as they are written
-pub spelt_listed : (w : Word) (xs : List ℕ) → spelt (w ∷ map Number xs) ≡ written w ++ listed xs
+pub spelt_listed : (w : Word) (xs : List ℕ) → spelt (w ∷ map Word.Number xs) ≡ written w ++ listed xs
 spelt_listed w [] = sym (append-nil (written w))
-spelt_listed w (x ∷ xs) = ap (λ (l : List ℕ). written w ++ (32 ∷ l)) (spelt_listed (Number x) xs)
+spelt_listed w (x ∷ xs) = ap (λ (l : List ℕ). written w ++ (32 ∷ l)) (spelt_listed (Word.Number x) xs)
 
 pub ok_is : {V E : Type 0} (r : Result V E) (v : V) → r ≡ Ok v → is_ok r ≡ true
 ok_is r v e = ap is_ok e

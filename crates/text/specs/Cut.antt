@@ -3,13 +3,12 @@ use Rattle.std.specs.Prelude.{◌≡◌, ℕ, ◌≤◌, Bool, cond, ◌||◌, L
 use denote.Ref.{Bor}
 use Rattle.text.specs.declared.cut.Pieces.{Pieces}
 use Rattle.text.specs.declared.cut.Stop.{Stop}
-use Rattle.text.specs.declared.cut.Stop.TheVariants.{Line, Comment, Blank}
 
 -- the bytes that end a line, that begin a comment, and that stand between words
 abbrev pub stops : Stop → ℕ → Bool
-stops Line b = b == 10
-stops Comment b = b == 35
-stops Blank b = b == 32 || b == 9
+stops Stop.Line b = b == 10
+stops Stop.Comment b = b == 35
+stops Stop.Blank b = b == 32 || b == 9
 
 -- what comes before the first byte that passes
 abbrev pub before : (ℕ → Bool) → List ℕ → List ℕ

@@ -18,7 +18,8 @@ command_bounded (Command.Later a) = all_below 4294967296 (a.release ∷ a.place 
 command_bounded Command.Forget = true
 command_bounded Command.Sleep = true
 command_bounded Command.Wake = true
-command_bounded (Command.SetRule k r) = all_below 4294967296 (k ∷ r.watches ∷ r.limit ∷ r.needs ∷ r.place ∷ r.number ∷ [])
+command_bounded (Command.SetRule k r) =
+    all_below 4294967296 (k ∷ r.watches ∷ r.limit ∷ r.needs ∷ r.place ∷ r.number ∷ [])
 command_bounded (Command.Unknown k) = false
 
 abbrev pub bounded : Event → Bool
@@ -30,19 +31,16 @@ bounded Event.Tick = true
 
 -- whether a frame comes up
 abbrev pub brings : Event → Bool
-brings (Event.Read i v) = false
 brings (Event.Up n c) = true
 brings (Event.Frame xs) = true
-brings (Event.Hit c w v) = false
-brings Event.Tick = false
+brings _ = false
 
 -- whether a frame has come up since the last tick, after one event more
-abbrev pub after : Bool → Event → Bool
-after heard (Event.Read i v) = heard
-after heard (Event.Up n c) = true
-after heard (Event.Frame xs) = true
-after heard (Event.Hit c w v) = heard
-after heard Event.Tick = false
+abbrev pub heard_after : Bool → Event → Bool
+heard_after heard (Event.Up n c) = true
+heard_after heard (Event.Frame xs) = true
+heard_after heard Event.Tick = false
+heard_after heard _ = heard
 
 -- what may be said next
 abbrev pub allowed : Bool → Event → Bool
@@ -57,15 +55,3 @@ all_said may after heard (e ∷ es) = may heard e && all_said may after (after h
 abbrev pub after_all : {E : Type 0} → (Bool → E → Bool) → Bool → List E → Bool
 after_all after heard [] = heard
 after_all after heard (e ∷ es) = after_all after (after heard e) es
-
--- whether a frame has come up since the last tick, after several events
-abbrev pub heard_after : Bool → List Event → Bool
-heard_after heard es = after_all after heard es
-
--- the events of a text, from its start
-abbrev pub lawful : List Event → Bool
-lawful es = all_said allowed after false es
-
--- the commands of a text, of which each may be said whatever the others are
-abbrev pub all_commandable : List Command → Bool
-all_commandable cs = all_said (λ _ c. command_bounded c) (λ heard _. heard) false cs

@@ -6,27 +6,27 @@ use Rattle.schedule.specs.Numbers.{activity_numbers}
 use Rattle.rules.specs.Numbers.{rule_numbers}
 use Rattle.frame.specs.declared.Command.{Command}
 use Rattle.text.specs.declared.words.Word.{Word}
-use Rattle.text.specs.declared.words.Word.TheVariants.{Number, Read, Up, Frame, Hit, Tick, Put, Later, Forget, Sleep, Wake, Rule, Other}
+use Rattle.text.specs.declared.words.Keyword.{Keyword}
 use Rattle.text.specs.declared.event.Event.{Event}
 use Rattle.text.specs.Law.{bounded, command_bounded}
 
 -- an unknown command has no name
 abbrev pub command_words : Command → List Word
-command_words (Command.Put a b) = Put ∷ Number a ∷ Number b ∷ []
-command_words (Command.Later a) = Later ∷ map Number (activity_numbers a)
-command_words Command.Forget = Forget ∷ []
-command_words Command.Sleep = Sleep ∷ []
-command_words Command.Wake = Wake ∷ []
+command_words (Command.Put a b) = Word.Keyword Keyword.Put ∷ map Word.Number (a ∷ b ∷ [])
+command_words (Command.Later a) = Word.Keyword Keyword.Later ∷ map Word.Number (activity_numbers a)
+command_words Command.Forget = Word.Keyword Keyword.Forget ∷ []
+command_words Command.Sleep = Word.Keyword Keyword.Sleep ∷ []
+command_words Command.Wake = Word.Keyword Keyword.Wake ∷ []
 command_words (Command.SetRule k r) =
-    Rule ∷ Number k ∷ map Number (rule_numbers r)
-command_words (Command.Unknown k) = Other ∷ Number k ∷ []
+    Word.Keyword Keyword.Rule ∷ map Word.Number (k ∷ rule_numbers r)
+command_words (Command.Unknown k) = Word.Other ∷ Word.Number k ∷ []
 
 abbrev pub event_words : Event → List Word
-event_words (Event.Read i v) = Read ∷ Number i ∷ Number v ∷ []
-event_words (Event.Up n c) = Up ∷ Number n ∷ command_words c
-event_words (Event.Frame xs) = Frame ∷ map Number xs
-event_words (Event.Hit c w v) = Hit ∷ Number c ∷ Number w ∷ Number v ∷ []
-event_words Event.Tick = Tick ∷ []
+event_words (Event.Read i v) = Word.Keyword Keyword.Read ∷ map Word.Number (i ∷ v ∷ [])
+event_words (Event.Up n c) = Word.Keyword Keyword.Up ∷ Word.Number n ∷ command_words c
+event_words (Event.Frame xs) = Word.Keyword Keyword.Frame ∷ map Word.Number xs
+event_words (Event.Hit c w v) = Word.Keyword Keyword.Hit ∷ map Word.Number (c ∷ w ∷ v ∷ [])
+event_words Event.Tick = Word.Keyword Keyword.Tick ∷ []
 
 -- what has these words; if there is none, nothing that passes has them
 abbrev pub Found : {E : Type 0} → (E → List Word) → (E → Bool) → List Word → Option E → Type 0
@@ -38,7 +38,7 @@ abbrev pub Finds : {E : Type 0} → (E → List Word) → (E → Bool) → List 
 Finds {E} table passes ws None = (e : E) → passes e ≡ true → ws ≢ table e
 Finds table passes ws (Some e) = (passes e ≡ true) × (ws ≡ table e)
 
--- what words are read as: the event that has them; if there is none, none that may be said has them
+-- what words are read as: the event that has them; if there is none, none in its bounds has them
 abbrev pub Events : List Word → Option Event → Type 0
 Events ws o = Found event_words bounded ws o
 
@@ -46,31 +46,20 @@ abbrev pub Commands : List Word → Option Command → Type 0
 Commands ws o = Found command_words command_bounded ws o
 
 abbrev pub amount : Word → Option ℕ
-amount (Number n) = Some n
-amount Read = None
-amount Up = None
-amount Frame = None
-amount Hit = None
-amount Tick = None
-amount Put = None
-amount Later = None
-amount Forget = None
-amount Sleep = None
-amount Wake = None
-amount Rule = None
-amount Other = None
+amount (Word.Number n) = Some n
+amount _ = None
 
 -- the words after `later` are those of an activity
 abbrev pub ActivityNumbers : List Word → Option Activity → Type 0
-ActivityNumbers ws None = (a : Activity) → ws ≢ map Number (activity_numbers a)
-ActivityNumbers ws (Some a) = ws ≡ map Number (activity_numbers a)
+ActivityNumbers ws None = (a : Activity) → ws ≢ map Word.Number (activity_numbers a)
+ActivityNumbers ws (Some a) = ws ≡ map Word.Number (activity_numbers a)
 
 -- the words are the numbers of a rule
 abbrev pub RuleNumbers : List Word → Option Rule.Rule → Type 0
-RuleNumbers ws None = (r : Rule.Rule) → ws ≢ map Number (rule_numbers r)
-RuleNumbers ws (Some r) = ws ≡ map Number (rule_numbers r)
+RuleNumbers ws None = (r : Rule.Rule) → ws ≢ map Word.Number (rule_numbers r)
+RuleNumbers ws (Some r) = ws ≡ map Word.Number (rule_numbers r)
 
 -- the words are n numbers
 abbrev pub Numbers : ℕ → List Word → Option (List ℕ) → Type 0
-Numbers n ws None = (xs : List ℕ) → length xs ≡ n → ws ≢ map Number xs
-Numbers n ws (Some xs) = (length xs ≡ n) × (ws ≡ map Number xs)
+Numbers n ws None = (xs : List ℕ) → length xs ≡ n → ws ≢ map Word.Number xs
+Numbers n ws (Some xs) = (length xs ≡ n) × (ws ≡ map Word.Number xs)

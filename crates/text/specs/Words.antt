@@ -2,31 +2,48 @@
 use Rattle.std.specs.Prelude.{ℕ, ◌^◌, ◌<◌, cond, List, [], ◌∷◌, ◌++◌, map, filter, length, not, ◌==◌, Some, None, codes, decimal, Option}
 use Rattle.std.specs.Str.{bytes_eq}
 use Rattle.text.specs.declared.words.Word.{Word}
-use Rattle.text.specs.declared.words.Word.TheVariants.{Number, Read, Up, Frame, Hit, Tick, Put, Later, Forget, Sleep, Wake, Rule, Other}
-use Rattle.text.specs.declared.cut.Stop.TheVariants.{Line, Comment, Blank}
+use Rattle.text.specs.declared.words.Keyword.{Keyword}
+use Rattle.text.specs.declared.cut.Stop.{Stop}
 use Rattle.text.specs.Cut.{stops, before, cut}
-use Rattle.text.specs.Number.{number}
+use Rattle.text.specs.Number.{read_number}
 
-abbrev pub named : List ℕ → Word
-named bs =
-    cond (bytes_eq bs (codes "read")) Read
-    (cond (bytes_eq bs (codes "up")) Up
-    (cond (bytes_eq bs (codes "frame")) Frame
-    (cond (bytes_eq bs (codes "hit")) Hit
-    (cond (bytes_eq bs (codes "tick")) Tick
-    (cond (bytes_eq bs (codes "put")) Put
-    (cond (bytes_eq bs (codes "later")) Later
-    (cond (bytes_eq bs (codes "forget")) Forget
-    (cond (bytes_eq bs (codes "sleep")) Sleep
-    (cond (bytes_eq bs (codes "wake")) Wake
-    (cond (bytes_eq bs (codes "rule")) Rule Other))))))))))
+-- how each keyword is spelt
+abbrev pub spelling : Keyword → List ℕ
+spelling Keyword.Read = codes "read"
+spelling Keyword.Up = codes "up"
+spelling Keyword.Frame = codes "frame"
+spelling Keyword.Hit = codes "hit"
+spelling Keyword.Tick = codes "tick"
+spelling Keyword.Put = codes "put"
+spelling Keyword.Later = codes "later"
+spelling Keyword.Forget = codes "forget"
+spelling Keyword.Sleep = codes "sleep"
+spelling Keyword.Wake = codes "wake"
+spelling Keyword.Rule = codes "rule"
+
+abbrev pub keywords : List Keyword
+keywords =
+    Keyword.Read ∷ Keyword.Up ∷ Keyword.Frame ∷ Keyword.Hit ∷ Keyword.Tick ∷ Keyword.Put
+    ∷ Keyword.Later ∷ Keyword.Forget ∷ Keyword.Sleep ∷ Keyword.Wake ∷ Keyword.Rule ∷ []
+
+-- the first of some keywords that is spelt so
+abbrev pub spelt_by : List ℕ → List Keyword → Option Keyword
+spelt_by bs [] = None
+spelt_by bs (k ∷ ks) = cond (bytes_eq bs (spelling k)) (Some k) (spelt_by bs ks)
+
+abbrev pub named : List ℕ → Option Keyword
+named bs = spelt_by bs keywords
+
+abbrev pub keyword_or_other : Option Keyword → Word
+keyword_or_other (Some k) = Word.Keyword k
+keyword_or_other None = Word.Other
 
 abbrev pub numbered : Option ℕ → List ℕ → Word
-numbered (Some n) bs = Number n
-numbered None bs = named bs
+numbered (Some n) bs = Word.Number n
+numbered None bs = keyword_or_other (named bs)
 
 abbrev pub worded : List ℕ → Word
-worded bs = numbered (number bs) bs
+worded bs = numbered (read_number bs) bs
 
 -- those that are not empty
 abbrev pub filled : List (List ℕ) → List (List ℕ)
@@ -34,29 +51,19 @@ filled ws = filter (λ w. not (length w == 0)) ws
 
 -- the words between blanks
 abbrev pub spaced : List ℕ → List Word
-spaced bs = map worded (filled (cut (stops Blank) bs))
+spaced bs = map worded (filled (cut (stops Stop.Blank) bs))
 
 -- what comes before the comment
 abbrev pub line_words : List ℕ → List Word
-line_words bs = spaced (before (stops Comment) bs)
+line_words bs = spaced (before (stops Stop.Comment) bs)
 
 abbrev pub lines : List ℕ → List (List Word)
-lines bs = map line_words (cut (stops Line) bs)
+lines bs = map line_words (cut (stops Stop.Line) bs)
 
 abbrev pub written : Word → List ℕ
-written (Number n) = decimal n
-written Read = codes "read"
-written Up = codes "up"
-written Frame = codes "frame"
-written Hit = codes "hit"
-written Tick = codes "tick"
-written Put = codes "put"
-written Later = codes "later"
-written Forget = codes "forget"
-written Sleep = codes "sleep"
-written Wake = codes "wake"
-written Rule = codes "rule"
-written Other = codes "?"
+written (Word.Number n) = decimal n
+written (Word.Keyword k) = spelling k
+written Word.Other = codes "?"
 
 -- the words of a line, with a space between
 abbrev pub spelt : List Word → List ℕ
@@ -64,18 +71,8 @@ spelt [] = []
 spelt (w ∷ []) = written w
 spelt (w ∷ v ∷ ws) = written w ++ (32 ∷ spelt (v ∷ ws))
 
--- what can be written so that it is read back: a word that has a name, or a number below 2^64
+-- what can be written so that it is read back: a number below 2^64, or a keyword
 abbrev pub Writable : Word → Type 0
-Writable (Number n) = n < 2 ^ 64
-Writable Read = Unit {0}
-Writable Up = Unit {0}
-Writable Frame = Unit {0}
-Writable Hit = Unit {0}
-Writable Tick = Unit {0}
-Writable Put = Unit {0}
-Writable Later = Unit {0}
-Writable Forget = Unit {0}
-Writable Sleep = Unit {0}
-Writable Wake = Unit {0}
-Writable Rule = Unit {0}
-Writable Other = ⊥
+Writable (Word.Number n) = n < 2 ^ 64
+Writable (Word.Keyword k) = Unit {0}
+Writable Word.Other = ⊥

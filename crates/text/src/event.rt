@@ -1,7 +1,7 @@
 //! The events of a flight, and the words that say them.
 ghost use Rattle.text.specs.Table.{Numbers, ActivityNumbers, RuleNumbers, Commands, Events};
 
-use crate::words::Word;
+use crate::words::{Keyword, Word};
 use frame::Command;
 use rules::Rule;
 use schedule::Activity;
@@ -26,24 +26,30 @@ pub fn event_of(words: &[Word]) -> Option<Event>
     ensures { Events words.now result }
 {
     match *words {
-        [Word::Read, Word::Number(instrument), Word::Number(value)] => {
-            Some(Event::Read { instrument, value })
-        }
-        [Word::Up, Word::Number(number), ref rest @ ..] => {
+        [
+            Word::Keyword(Keyword::Read),
+            Word::Number(instrument),
+            Word::Number(value),
+        ] => Some(Event::Read { instrument, value }),
+        [
+            Word::Keyword(Keyword::Up),
+            Word::Number(number),
+            ref rest @ ..,
+        ] => {
             let command = command_of(rest)?;
             Some(Event::Up { number, command })
         }
-        [Word::Frame, ref rest @ ..] => {
+        [Word::Keyword(Keyword::Frame), ref rest @ ..] => {
             let numbers = numbers::<12>(rest)?;
             Some(Event::Frame { numbers })
         }
         [
-            Word::Hit,
+            Word::Keyword(Keyword::Hit),
             Word::Number(copy),
             Word::Number(word),
             Word::Number(value),
         ] => Some(Event::Hit { copy, word, value }),
-        [Word::Tick] => Some(Event::Tick),
+        [Word::Keyword(Keyword::Tick)] => Some(Event::Tick),
         _ => None,
     }
 }
@@ -53,17 +59,23 @@ pub fn command_of(words: &[Word]) -> Option<Command>
     ensures { Commands words.now result }
 {
     match *words {
-        [Word::Put, Word::Number(place), Word::Number(number)] => {
-            Some(Command::Put { place, number })
-        }
-        [Word::Later, ref rest @ ..] => {
+        [
+            Word::Keyword(Keyword::Put),
+            Word::Number(place),
+            Word::Number(number),
+        ] => Some(Command::Put { place, number }),
+        [Word::Keyword(Keyword::Later), ref rest @ ..] => {
             let activity = activity_of(rest)?;
             Some(Command::Later { activity })
         }
-        [Word::Forget] => Some(Command::Forget),
-        [Word::Sleep] => Some(Command::Sleep),
-        [Word::Wake] => Some(Command::Wake),
-        [Word::Rule, Word::Number(index), ref rest @ ..] => {
+        [Word::Keyword(Keyword::Forget)] => Some(Command::Forget),
+        [Word::Keyword(Keyword::Sleep)] => Some(Command::Sleep),
+        [Word::Keyword(Keyword::Wake)] => Some(Command::Wake),
+        [
+            Word::Keyword(Keyword::Rule),
+            Word::Number(index),
+            ref rest @ ..,
+        ] => {
             let rule = rule_of(rest)?;
             Some(Command::SetRule { index, rule })
         }

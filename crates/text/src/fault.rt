@@ -2,16 +2,18 @@
 ghost use Rattle.std.specs.Prelude.{◌≡◌, Some};
 ghost use Rattle.text.specs.declared.fault.Fault.TheVariants.{Memory};
 ghost use Rattle.text.specs.declared.fault.Unread.TheVariants as unread;
-ghost use Rattle.text.specs.Phrase.{phrase};
+ghost use Rattle.text.specs.Phrase.{phrase, refusal_of};
 ghost use Rattle.text.specs.Text.{fault_at};
 
 use crate::law::WORDS;
+use refusal::Refusal;
 use std::alloc::{AllocError, AllocFailed};
 use std::fmt;
 
 // What people are told that a command is.
 const COMMAND: &str =
-    "`put A B`, `later A B C`, `forget`, `sleep`, `wake` or `rule A B C D E F G H`, each number below 4294967296, D and F 0 or 1";
+    "`put A B`, `later A B C`, `forget`, `sleep`, `wake` or `rule A B C D E F G H`, \
+    each number below 4294967296, D and F 0 or 1";
 
 /// What a line should have been.
 #[derive(Clone, Copy, Debug, Drop)]
@@ -35,6 +37,18 @@ pub enum Fault {
     Unreadable { line: usize, expected: Expected },
     /// There is no memory left.
     Memory,
+}
+
+impl Fault {
+    /// The refusal by which programs know it; want of memory is none.
+    pub fn refusal(self) -> Option<Refusal>
+        ensures { result ≡ refusal_of self }
+    {
+        match self {
+            Fault::Unreadable { line, .. } => Some(Refusal::Unreadable { line }),
+            Fault::Memory => None,
+        }
+    }
 }
 
 /// Why a line is not read.

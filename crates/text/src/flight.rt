@@ -1,24 +1,28 @@
 //! Reads a flight text.
 ghost use Rattle.std.specs.Prelude.{◌≡◌, List, MatchResult};
-ghost use Rattle.text.specs.Text.{by_first, flights, Bounded, Told, Failed};
+ghost use Rattle.text.specs.Law.{bounded as bounds};
+ghost use Rattle.text.specs.Table.{event_words, Finds};
+ghost use Rattle.text.specs.Text.{by_first, flights, Tells, Fails};
 
 use crate::event::{Event, event_of};
 use crate::fault::{Expected, Fault};
 use crate::law::{bounded, brings, heard_after};
 use crate::statement::{Statement, Statements, parse_all};
-use crate::words::Word;
+use crate::words::{Keyword, Word};
 use std::alloc::Global;
 
-/// The events of a text, in order; or its first line at fault, counted from 0, and what was expected there.
+/// The events of a text, in order; or its first line at fault, counted from 0, and what was
+/// expected there.
 pub fn parse(heap: Global, text: &[u8]) -> Result<Vec<Event>, Fault>
-    ensures { MatchResult result (λ v. Told text.now v.items) (λ f. Failed text.now f) }
+    ensures { MatchResult result (λ v. Tells flights text.now v.items) (Fails flights text.now) }
 {
     parse_all(heap, text)
 }
 
 /// Reads a whole text and keeps nothing of it: whether it can be read, or its first line at fault.
 pub fn check(heap: Global, text: &[u8]) -> Result<(), Fault>
-    ensures { MatchResult result (λ _. (es : List Event) × Told text.now es) (λ f. Failed text.now f) }
+    ensures { MatchResult result (λ _. (es : List Event) × Tells flights text.now es)
+        (Fails flights text.now) }
 {
     for read in Statements::<Event>::new(heap, text) {
         let _ = read?;
@@ -44,7 +48,7 @@ impl Statement for Event {
 
 // The event that words say, if its numbers lie in their bounds.
 fn bounded_event(words: &[Word]) -> Option<Event>
-    ensures { Bounded words.now result }
+    ensures { Finds event_words bounds words.now result }
 {
     event_of(words).filter(|event| bounded(*event))
 }
@@ -54,11 +58,11 @@ fn wanted(words: &[Word]) -> Expected
     ensures { result ≡ by_first words.now }
 {
     match words {
-        [Word::Read, ..] => Expected::Read,
-        [Word::Up, ..] => Expected::Up,
-        [Word::Frame, ..] => Expected::Frame,
-        [Word::Hit, ..] => Expected::Hit,
-        [Word::Tick, ..] => Expected::Tick,
+        [Word::Keyword(Keyword::Read), ..] => Expected::Read,
+        [Word::Keyword(Keyword::Up), ..] => Expected::Up,
+        [Word::Keyword(Keyword::Frame), ..] => Expected::Frame,
+        [Word::Keyword(Keyword::Hit), ..] => Expected::Hit,
+        [Word::Keyword(Keyword::Tick), ..] => Expected::Tick,
         _ => Expected::Event,
     }
 }

@@ -1,6 +1,6 @@
 //! Which events a text may say.
 ghost use Rattle.std.specs.Prelude.{◌≡◌};
-ghost use Rattle.text.specs.Law.{all_below, bounded as bounds, command_bounded, brings as bringing, after};
+ghost use Rattle.text.specs.Law.{all_below, bounded as bounds, command_bounded, brings as bringing, heard_after as hears};
 
 use crate::event::Event;
 use frame::Command;
@@ -70,7 +70,7 @@ pub fn brings(event: Event) -> bool
 
 /// Whether a frame has come up since the last tick, after one event more.
 pub fn heard_after(heard: bool, event: Event) -> bool
-    ensures { result ≡ after heard event }
+    ensures { result ≡ hears heard event }
 {
     match event {
         Event::Up { .. } | Event::Frame { .. } => true,

@@ -1,9 +1,11 @@
 //! What is said of a text that is not read.
 ghost use Rattle.std.specs.Prelude.{◌≡◌, Some};
-ghost use Rattle.text.specs.Phrase.{shown, misread};
+ghost use Rattle.std.specs.Fmt.{WritesOnOk};
+ghost use Rattle.text.specs.Phrase.{for_programs, shown, misread_text};
 
 use crate::cut::line_at;
 use crate::fault::Fault;
+use refusal::Refusal;
 use std::fmt;
 use std::str::from_utf8;
 
@@ -18,9 +20,10 @@ pub struct Misread<'a> {
 }
 
 impl<'a> fmt::Display for Misread<'a> {
-    ghost output = { λ m. Some (misread m) };
+    ghost output = { λ m. Some (misread_text m) };
 
     fn fmt<W: fmt::Write>(&self, f: &mut fmt::Formatter<W>) -> fmt::Result {
+        announce(self.fault.refusal(), f)?;
         let program = self.program;
         match self.fault {
             Fault::Unreadable { line, expected } => {
@@ -29,11 +32,21 @@ impl<'a> fmt::Display for Misread<'a> {
                 let number = line.saturating_add(1);
                 write!(
                     f,
-                    "refused 3 {line}\n{program}: line {number}{of}: expected {expected}; found {found}"
+                    "{program}: line {number}{of}: expected {expected}; found {found}"
                 )
             }
             Fault::Memory => write!(f, "{program}: no memory left"),
         }
+    }
+}
+
+// The line that programs know, where something is refused.
+fn announce<W: fmt::Write>(refusal: Option<Refusal>, f: &mut fmt::Formatter<W>) -> fmt::Result
+    ensures { WritesOnOk W.Write.write_str_gives f.old result (for_programs refusal) f.new }
+{
+    match refusal {
+        Some(refusal) => writeln!(f, "{refusal}"),
+        None => Ok(()),
     }
 }
 

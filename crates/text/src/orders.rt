@@ -1,9 +1,10 @@
-//! Reads and writes a text of commands, one to a line, in the order of their numbers; and reads a report.
-ghost use Rattle.std.specs.Prelude.{◌≡◌, true, IfOk, string_bytes, MatchResult};
-ghost use Rattle.text.specs.Law.{all_commandable};
+//! Reads and writes a text of commands, one to a line, in the order of their numbers, and reads a
+//! report.
+ghost use Rattle.std.specs.Prelude.{◌≡◌, ◌≤◌, ◌^◌, true, length, IfOk, string_bytes, MatchResult};
+ghost use Rattle.frame.specs.File.{Sendable};
 ghost use Rattle.text.specs.Render.{rendered, Only};
 ghost use Rattle.text.specs.Table.{command_words, Numbers};
-ghost use Rattle.text.specs.Text.{orders, Ordered, Disordered};
+ghost use Rattle.text.specs.Text.{orders, IsLawful, Tells, Fails};
 ghost use Rattle.text.specs.Words.{line_words};
 
 use crate::event::{command_of, numbers};
@@ -15,9 +16,12 @@ use crate::write::{Order, lines_of};
 use frame::Command;
 use std::alloc::{AllocError, Global};
 
-/// The commands of a text, in order; or its first line at fault, counted from 0.
+/// The commands of a text, in order; or its first line at fault, counted from 0. If they are 2^32
+/// at most, a frame can carry each under its number.
 pub fn parse_commands(heap: Global, text: &[u8]) -> Result<Vec<Command>, Fault>
-    ensures { MatchResult result (λ v. Ordered text.now v.items) (λ f. Disordered text.now f) }
+    ensures read { MatchResult result (λ v. Tells orders text.now v.items)
+        (Fails orders text.now) }
+    ensures sendable { IfOk result (λ v. length v.items ≤ 2 ^ 32 → Sendable v.items) }
 {
     parse_all(heap, text)
 }
@@ -37,10 +41,11 @@ impl Statement for Command {
     }
 }
 
-/// A text that says the commands, one to a line. Where they are lawful, parsing it gives them back.
+/// A text that says the commands, one to a line. If they are lawful, parsing it gives them back.
 pub fn render_commands(heap: Global, commands: &[Command]) -> Result<String, AllocError>
     ensures text { IfOk result (λ s. string_bytes s ≡ rendered command_words commands.now) }
-    ensures back { IfOk result (λ s. all_commandable commands.now ≡ true → Only Command (Ordered (string_bytes s)) (Disordered (string_bytes s)) commands.now) }
+    ensures back { IfOk result (λ s. IsLawful orders commands.now →
+        Only orders (string_bytes s) commands.now) }
 {
     lines_of::<Command, Order>(heap, commands)
 }

@@ -3,7 +3,7 @@ ghost use Rattle.std.specs.Prelude.{◌≡◌, false, MatchResult};
 ghost use Rattle.std.specs.Iterator.{item_count};
 ghost use Rattle.text.specs.Cut.{stops, cut};
 ghost use Rattle.text.specs.declared.cut.Stop.TheVariants.{Line};
-ghost use Rattle.text.specs.Lines.{rest, line as line_number, IsNumbered, left_by, reads_next};
+ghost use Rattle.text.specs.Lines.{rest, line_number, IsNumbered, left_by, reads_next};
 ghost use Rattle.text.specs.Text.{Language, Readable, IsSaid, Unsaid, Reads, Tells, Fails};
 ghost use Rattle.text.specs.Words.{line_words};
 
@@ -20,11 +20,12 @@ pub trait Statement: Copy {
 
     /// What has these words, where a frame has come up since the last tick or not.
     fn of_words(words: &[Word], heard: bool) -> Result<Self, Expected>
-        ensures { MatchResult result (λ e. IsSaid language heard words.now e) (λ x. Unsaid language heard words.now x) };
+        ensures { MatchResult result (IsSaid language heard words.now)
+            (Unsaid language heard words.now) };
 
     /// Whether a frame has come up since the last tick, after this too.
     fn heard_after(self, heard: bool) -> bool
-        ensures { result ≡ language.after heard self };
+        ensures { result ≡ language.heard_after heard self };
 }
 
 /// Reads a line, after a frame in this tick or not; nothing where it has no words.
@@ -91,11 +92,13 @@ fn heard_on<S: Statement>(heard: bool, read: Result<Option<S>, Unread>) -> bool
     }
 }
 
-/// What a text says, in order; or its first line at fault, counted from 0, and what was expected there.
-/// `Readable` is asked here and is no law of `Statement`: a law is proved in specs/, where no tactic may stand.
+/// What a text says, in order; or its first line at fault, counted from 0, and what was expected
+/// there. `Readable` is asked here and is no law of `Statement`: a law is proved in specs/, where
+/// no tactic may stand.
 pub fn parse_all<S: Statement>(heap: Global, text: &[u8]) -> Result<Vec<S>, Fault>
     requires { Readable S.language }
-    ensures { MatchResult result (λ v. Tells S.language text.now v.items) (λ f. Fails S.language text.now f) }
+    ensures { MatchResult result (λ v. Tells S.language text.now v.items)
+        (Fails S.language text.now) }
 {
     let mut all = Vec::new(heap);
     for read in Statements::<S>::new(heap, text) {

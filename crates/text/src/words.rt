@@ -1,16 +1,15 @@
 //! The words of a line.
 ghost use Rattle.std.specs.Prelude.{◌≡◌, [], ◌∷◌, IfOk};
-ghost use Rattle.text.specs.Number.{number as reading, reads};
+ghost use Rattle.text.specs.Number.{read_number, read_digits};
 ghost use Rattle.text.specs.Table.{amount as amounts};
 ghost use Rattle.text.specs.Words.{named as naming, worded, spaced, line_words};
 
 use crate::cut::{Pieces, Stop, piece_len};
 use std::alloc::{AllocError, Global};
 
-/// A word: a decimal number below 2^64, a name that some line uses, or any other.
+/// A name that some line uses: `named` has how each is spelt.
 #[derive(Clone, Copy, Drop)]
-pub enum Word {
-    Number(u64),
+pub enum Keyword {
     Read,
     Up,
     Frame,
@@ -22,6 +21,13 @@ pub enum Word {
     Sleep,
     Wake,
     Rule,
+}
+
+/// A word: a decimal number below 2^64, a keyword, or any other.
+#[derive(Clone, Copy, Drop)]
+pub enum Word {
+    Number(u64),
+    Keyword(Keyword),
     Other,
 }
 
@@ -57,15 +63,15 @@ fn split(heap: Global, line: &[u8]) -> Result<Vec<Word>, AllocError>
 fn word_of(bytes: &[u8]) -> Word
     ensures { result ≡ worded bytes.now }
 {
-    match number(bytes) {
-        Some(n) => Word::Number(n),
-        None => named(bytes),
+    if let Some(n) = number(bytes) {
+        return Word::Number(n);
     }
+    named(bytes).map_or(Word::Other, Word::Keyword)
 }
 
 // The number that a word of digits writes, if it is below 2^64.
 fn number(word: &[u8]) -> Option<u64>
-    ensures { result ≡ reading word.now }
+    ensures { result ≡ read_number word.now }
 {
     if word.is_empty() {
         return None;
@@ -79,7 +85,7 @@ fn number(word: &[u8]) -> Option<u64>
 
 // A number with one digit more, if that is a digit and the number stays below 2^64.
 fn onward(n: u64, b: u8) -> Option<u64>
-    ensures { result ≡ reads n (b ∷ []) }
+    ensures { result ≡ read_digits n (b ∷ []) }
 {
     if !b.is_ascii_digit() {
         return None;
@@ -87,22 +93,23 @@ fn onward(n: u64, b: u8) -> Option<u64>
     n.checked_mul(10)?.checked_add(u64::from(b - b'0'))
 }
 
-// The name that a word spells.
-fn named(word: &[u8]) -> Word
+// The keyword that a word spells.
+fn named(word: &[u8]) -> Option<Keyword>
     ensures { result ≡ naming word.now }
 {
-    match word {
-        b"read" => Word::Read,
-        b"up" => Word::Up,
-        b"frame" => Word::Frame,
-        b"hit" => Word::Hit,
-        b"tick" => Word::Tick,
-        b"put" => Word::Put,
-        b"later" => Word::Later,
-        b"forget" => Word::Forget,
-        b"sleep" => Word::Sleep,
-        b"wake" => Word::Wake,
-        b"rule" => Word::Rule,
-        _ => Word::Other,
-    }
+    let keyword = match word {
+        b"read" => Keyword::Read,
+        b"up" => Keyword::Up,
+        b"frame" => Keyword::Frame,
+        b"hit" => Keyword::Hit,
+        b"tick" => Keyword::Tick,
+        b"put" => Keyword::Put,
+        b"later" => Keyword::Later,
+        b"forget" => Keyword::Forget,
+        b"sleep" => Keyword::Sleep,
+        b"wake" => Keyword::Wake,
+        b"rule" => Keyword::Rule,
+        _ => return None,
+    };
+    Some(keyword)
 }

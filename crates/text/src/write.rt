@@ -2,9 +2,8 @@
 ghost use Rattle.std.specs.Prelude.{◌≡◌, true, false, map, drop, IfOk, Some, string_bytes};
 ghost use Rattle.text.specs.declared.words.Word.TheVariants.{Number};
 ghost use Rattle.std.specs.Fmt.{WritesOnOk};
-ghost use Rattle.text.specs.Law.{lawful, all_said};
 ghost use Rattle.text.specs.Table.{command_words, event_words};
-ghost use Rattle.text.specs.Text.{Readable, Tells, Fails, Told, Failed};
+ghost use Rattle.text.specs.Text.{flights, IsLawful, Readable};
 ghost use Rattle.text.specs.Words.{spelt};
 ghost use Rattle.text.specs.Render.{listed, rendered, Only};
 
@@ -14,10 +13,11 @@ use frame::Command;
 use std::alloc::{AllocError, Global};
 use std::fmt;
 
-/// A text that says the events, one to a line. Where they are lawful, parsing it gives them back.
+/// A text that says the events, one to a line. If they are lawful, parsing it gives them back.
 pub fn render(heap: Global, events: &[Event]) -> Result<String, AllocError>
     ensures text { IfOk result (λ s. string_bytes s ≡ rendered event_words events.now) }
-    ensures back { IfOk result (λ s. lawful events.now ≡ true → Only Event (Told (string_bytes s)) (Failed (string_bytes s)) events.now) }
+    ensures back { IfOk result (λ s. IsLawful flights events.now →
+        Only flights (string_bytes s) events.now) }
 {
     lines_of::<Event, Event>(heap, events)
 }
@@ -28,9 +28,11 @@ pub fn lines_of<S: Statement, L: From<S> + fmt::Display + Drop>(
     said: &[S],
 ) -> Result<String, AllocError>
     requires readable { Readable S.language }
-    requires written { (x : S) (line : L) → L.from_gives x line → L.output line ≡ Some (spelt (S.language.words x)) }
+    requires written { (x : S) (line : L) → L.from_gives x line →
+        L.output line ≡ Some (spelt (S.language.words x)) }
     ensures text { IfOk result (λ s. string_bytes s ≡ rendered S.language.words said.now) }
-    ensures back { IfOk result (λ s. all_said S.language.may S.language.after false said.now ≡ true → Only S (Tells S.language (string_bytes s)) (Fails S.language (string_bytes s)) said.now) }
+    ensures back { IfOk result (λ s. IsLawful S.language said.now →
+        Only S.language (string_bytes s) said.now) }
 {
     let mut out = String::new(heap);
     for one in said {

@@ -6,7 +6,7 @@ use crate::trial::{Difference, Flight, Inputs, Trial, WORDS, tick_anywhere};
 use std::num::Wrapping;
 use std::{array, fmt};
 
-/// Each of the 882 numbers is hit, and each two copies of each word.
+/// Each number of memory is hit, and each two copies of each word.
 #[derive(Default, Drop)]
 pub struct Hits {
     // Ticks with a hit in one copy.

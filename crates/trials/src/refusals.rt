@@ -2,7 +2,8 @@
 use crate::hits::numbers;
 use crate::rich::{QUIET, rich};
 use crate::trial::{Difference, Flight, Trial, WORDS, call, refused_for, tick_anywhere, unchanged};
-use onboard::{Lent, Refusal, launch, tick};
+use onboard::{MEMORY_LENGTH, launch, tick};
+use refusal::{Lent, Refusal};
 use std::fmt;
 use std::num::Wrapping;
 
@@ -23,7 +24,19 @@ struct Lengths {
     report: usize,
 }
 
-const MEMORIES: [usize; 8] = [0, 1, 293, 294, 588, 881, 882, 883];
+// One number more than memory has.
+const LONGER: usize = MEMORY_LENGTH + 1;
+
+const MEMORIES: [usize; 8] = [
+    0,
+    1,
+    WORDS - 1,
+    WORDS,
+    2 * WORDS,
+    MEMORY_LENGTH - 1,
+    MEMORY_LENGTH,
+    LONGER,
+];
 
 // Words of the rich flight (39 ticks old) that all three copies have otherwise, and which word is then at fault.
 const DAMAGE: [(usize, u64, Option<usize>); 30] = [
@@ -102,8 +115,8 @@ impl Refusals {
     // Launches with each other length.
     fn launches(&mut self, flight: &Flight) -> Result<(), Difference> {
         let before = lengthened(flight.memory());
-        for length in 0..884 {
-            if length == 882 {
+        for length in 0..=LONGER {
+            if length == MEMORY_LENGTH {
                 continue;
             }
             let mut memory = before;
@@ -179,7 +192,7 @@ impl Refusals {
 impl Lengths {
     // Which of them is wrong first.
     fn wrong(self) -> Option<Lent> {
-        if self.memory != 882 {
+        if self.memory != MEMORY_LENGTH {
             Some(Lent::Memory)
         } else if self.readings != 16 {
             Some(Lent::Readings)
@@ -198,7 +211,7 @@ impl Lengths {
         let mut memory = before;
         let mut report = [9; 10];
         let done = tick(
-            &mut memory[..self.memory.min(883)],
+            &mut memory[..self.memory.min(LONGER)],
             &[10; 18][..self.readings.min(18)],
             &[0; 14][..self.frame.min(14)],
             &mut report[..self.report.min(10)],
@@ -210,8 +223,8 @@ impl Lengths {
 }
 
 // Memory with one number more.
-fn lengthened(memory: &[u64; 882]) -> [u64; 883] {
-    let mut longer = [5; 883];
-    longer[..882].copy_from_slice(memory);
+fn lengthened(memory: &[u64; MEMORY_LENGTH]) -> [u64; LONGER] {
+    let mut longer = [5; LONGER];
+    longer[..MEMORY_LENGTH].copy_from_slice(memory);
     longer
 }

@@ -1,6 +1,7 @@
 //! A satellite in flight beside its story.
 use crate::story::{Story, fault};
-use onboard::{Refusal, launch, tick};
+use onboard::{MEMORY_LENGTH, launch, tick};
+use refusal::Refusal;
 use std::{array, fmt};
 
 /// How many words memory keeps, each three times.
@@ -60,8 +61,8 @@ impl fmt::Display for Difference {
     fn fmt<W: fmt::Write>(&self, f: &mut fmt::Formatter<W>) -> fmt::Result {
         match *self {
             Difference::Launch => write!(f, "it was not launched"),
-            Difference::Refused(refusal) => write!(f, "it was refused, {refusal}"),
-            Difference::NotRefused(refusal) => write!(f, "it was not refused, {refusal}"),
+            Difference::Refused(refusal) => write!(f, "it was {refusal}"),
+            Difference::NotRefused(refusal) => write!(f, "it was not {refusal}"),
             Difference::Report(parting) => {
                 let place = parting.place;
                 write!(f, "number {place} of the report is {parting}")
@@ -79,13 +80,13 @@ impl fmt::Display for Difference {
 
 #[derive(Clone, Copy)]
 pub struct Flight {
-    memory: [u64; 882],
+    memory: [u64; MEMORY_LENGTH],
     pub story: Story,
 }
 
 impl Flight {
     pub fn launched() -> Result<Flight, Difference> {
-        let mut memory = [7; 882];
+        let mut memory = [7; MEMORY_LENGTH];
         launch(&mut memory).map_err(|_| Difference::Launch)?;
         let story = Story::at_launch();
         same_memory(&memory, &story.words())?;
@@ -93,7 +94,7 @@ impl Flight {
     }
 
     /// All of memory.
-    pub fn memory(&self) -> &[u64; 882] {
+    pub fn memory(&self) -> &[u64; MEMORY_LENGTH] {
         &self.memory
     }
 
@@ -126,7 +127,7 @@ impl Flight {
 
 /// A tick from any memory: refused at the lowest word at fault, where there is one, and nothing is changed;
 /// else it goes on from what the copies of each word vote. Whether it was refused.
-pub fn tick_anywhere(memory: &[u64; 882], inputs: &Inputs) -> Result<bool, Difference> {
+pub fn tick_anywhere(memory: &[u64; MEMORY_LENGTH], inputs: &Inputs) -> Result<bool, Difference> {
     let words = voted(memory);
     let Some(word) = fault(&words) else {
         let mut flight = Flight {
@@ -146,7 +147,7 @@ pub fn tick_anywhere(memory: &[u64; 882], inputs: &Inputs) -> Result<bool, Diffe
 }
 
 // Of each word what two of its copies say, or the first.
-fn voted(memory: &[u64; 882]) -> [u64; 294] {
+fn voted(memory: &[u64; MEMORY_LENGTH]) -> [u64; 294] {
     array::from_fn(|k| {
         let [first, second, third] = [memory[k], memory[WORDS + k], memory[2 * WORDS + k]];
         if second == third { second } else { first }
@@ -155,7 +156,7 @@ fn voted(memory: &[u64; 882]) -> [u64; 294] {
 
 /// Calls the on-board program.
 pub fn call(
-    memory: &mut [u64; 882],
+    memory: &mut [u64; MEMORY_LENGTH],
     inputs: &Inputs,
     report: &mut [u64; 8],
 ) -> Result<(), Refusal> {
@@ -181,8 +182,8 @@ pub fn unchanged<const N: usize>(after: &[u64; N], before: &[u64; N]) -> Result<
 }
 
 // All three copies of every word are what the story has.
-fn same_memory(memory: &[u64; 882], words: &[u64; 294]) -> Result<(), Difference> {
-    let mut story = [0; 882];
+fn same_memory(memory: &[u64; MEMORY_LENGTH], words: &[u64; 294]) -> Result<(), Difference> {
+    let mut story = [0; MEMORY_LENGTH];
     let (copies, _) = story.as_chunks_mut();
     for copy in copies {
         *copy = *words;

@@ -2,118 +2,122 @@
 
 #![tactic(auto)]
 
-use frame::{Command, Telecommand, encode};
-use onboard::{Refusal, launch, tick};
-use rules::Rule;
-use schedule::Activity;
+#[cfg(test)]
+mod tests {
+    use frame::{Command, Telecommand, decode, encode};
+    use layout::WORDS;
+    use memory::{Kept, keep};
+    use onboard::{MEMORY_LENGTH, launch, tick};
+    use refusal::{Lent, Refusal};
+    use rules::Rule;
+    use schedule::Activity;
 
-/// A satellite in flight, and what it answered last.
-#[derive(Clone, Copy)]
-pub struct Craft {
-    pub memory: [u64; 882],
-    pub report: [u64; 8],
-    pub done: Result<(), Refusal>,
-}
+    // Words of memory, as docs/INTERFACE.md has them: 1 in safe mode, the first parameter, the first count.
+    const SAFE_MODE: usize = 2;
 
-/// No instrument reads anything.
-pub const QUIET: [u16; 16] = [0; 16];
+    const PARAMETERS: usize = 5;
 
-impl Craft {
-    pub fn launched() -> Craft {
-        let mut memory = [0; 882];
-        let _ = launch(&mut memory);
-        let report = [0; 8];
-        Craft {
-            memory,
-            report,
-            done: Ok(()),
+    const COUNTS: usize = 278;
+
+    // No instrument reads anything.
+    const QUIET: [u16; 16] = [0; 16];
+
+    // A satellite in flight, and what it answered last.
+    #[derive(Clone, Copy)]
+    struct Craft {
+        memory: [u64; MEMORY_LENGTH],
+        report: [u64; 8],
+        done: Result<(), Refusal>,
+    }
+
+    impl Craft {
+        fn launched() -> Craft {
+            let mut memory = [0; MEMORY_LENGTH];
+            let done = launch(&mut memory);
+            let report = [0; 8];
+            Craft {
+                memory,
+                report,
+                done,
+            }
+        }
+
+        // One tick.
+        fn fly(mut self, readings: [u16; 16], frame: &[u64]) -> Craft {
+            self.done = tick(&mut self.memory, &readings, frame, &mut self.report);
+            self
+        }
+
+        // A tick in which no instrument reads anything and a command comes up.
+        fn up(self, number: u64, command: Command) -> Craft {
+            self.fly(QUIET, &framed(number, command))
+        }
+
+        // A tick in which nothing comes up and instrument 2 reads a value.
+        fn read(self, value: u16) -> Craft {
+            self.fly(second(value), &[])
+        }
+
+        fn quiet(self) -> Craft {
+            self.fly(QUIET, &[])
+        }
+
+        // A word of memory, as it is read.
+        fn word(&self, k: usize) -> u64 {
+            let mut words = [0; WORDS];
+            Kept::<WORDS>::new(&self.memory).read(&mut words);
+            if k < WORDS { words[k] } else { 0 }
         }
     }
 
-    /// One tick.
-    pub fn fly(mut self, readings: [u16; 16], frame: &[u64]) -> Craft {
-        self.done = tick(&mut self.memory, &readings, frame, &mut self.report);
-        self
-    }
-
-    /// A tick in which no instrument reads anything and a command comes up.
-    pub fn up(self, number: u64, command: Command) -> Craft {
-        self.fly(QUIET, &framed(number, command))
-    }
-
-    /// A tick in which nothing comes up and instrument 2 reads a value.
-    pub fn read(self, value: u16) -> Craft {
+    // Instrument 2 reads a value, and the others nothing.
+    fn second(value: u16) -> [u16; 16] {
         let mut readings = QUIET;
         readings[2] = value;
-        self.fly(readings, &[])
+        readings
     }
 
-    pub fn quiet(self) -> Craft {
-        self.fly(QUIET, &[])
+    // The frame of a command; noughts where no frame can carry it, which no test asks for.
+    fn framed(number: u64, command: Command) -> [u64; 12] {
+        encode(Telecommand { number, command }).unwrap_or([0; 12])
     }
 
-    /// A word of memory, as its first copy has it.
-    pub fn word(&self, k: usize) -> u64 {
-        if k < 294 { self.memory[k] } else { 0 }
+    fn later(release: u64, place: u64, number: u64) -> Command {
+        Command::Later {
+            activity: Activity {
+                release,
+                place,
+                number,
+            },
+        }
     }
-}
 
-/// The frame of a command; noughts where no frame can carry it, which no test asks for.
-pub fn framed(number: u64, command: Command) -> [u64; 12] {
-    encode(Telecommand { number, command }).unwrap_or([0; 12])
-}
+    // Rule 0 about value 2, limit 10, upward, needing 3 ticks, putting to rest.
+    fn watching() -> Command {
+        let rule = Rule {
+            watches: 2,
+            limit: 10,
+            upward: true,
+            needs: 3,
+            safes: true,
+            place: 0,
+            number: 0,
+        };
+        Command::SetRule { index: 0, rule }
+    }
 
-pub fn later(release: u64, place: u64, number: u64) -> Command {
-    Command::Later {
-        activity: Activity {
-            release,
+    // A rule that puts a number at a place in the first tick in which a value is 5 or more.
+    fn passing(index: u64, watches: u64, place: u64, number: u64) -> Command {
+        let rule = Rule {
+            watches,
+            limit: 5,
+            upward: true,
+            needs: 1,
+            safes: false,
             place,
             number,
-        },
-    }
-}
-
-/// Rule 0 about value 2, limit 10, upward, needing 3 ticks, putting to rest.
-pub fn watching() -> Command {
-    let rule = Rule {
-        watches: 2,
-        limit: 10,
-        upward: true,
-        needs: 3,
-        safes: true,
-        place: 0,
-        number: 0,
-    };
-    Command::SetRule { index: 0, rule }
-}
-
-/// A rule that puts a number at a place in the first tick in which a value is 5 or more.
-pub fn passing(index: u64, watches: u64, place: u64, number: u64) -> Command {
-    let rule = Rule {
-        watches,
-        limit: 5,
-        upward: true,
-        needs: 1,
-        safes: false,
-        place,
-        number,
-    };
-    Command::SetRule { index, rule }
-}
-
-#[cfg(test)]
-mod tests {
-    use super::*;
-    use frame::decode;
-    use memory::vote;
-    use onboard::Lent;
-
-    #[test]
-    fn two_of_three(rt: HostRuntime) {
-        assert_eq!(rt; vote(7, 7, 9), 7);
-        assert_eq!(rt; vote(9, 7, 7), 7);
-        assert_eq!(rt; vote(7, 9, 7), 7);
-        assert_eq!(rt; vote(7, 8, 9), 7);
+        };
+        Command::SetRule { index, rule }
     }
 
     #[test]
@@ -147,7 +151,7 @@ mod tests {
         assert_eq!(rt; craft.report, [3, 2, 0, 0, 0, 1, 0, 0]);
         let craft = craft.quiet().quiet();
         assert_eq!(rt; craft.report, [5, 2, 0, 0, 0, 0, 0, 0]);
-        assert_eq!(rt; craft.word(5 + 20), 7);
+        assert_eq!(rt; craft.word(PARAMETERS + 20), 7);
     }
 
     #[test]
@@ -158,7 +162,7 @@ mod tests {
             .up(2, later(3, 20, 9));
         assert_eq!(rt; craft.report, [3, 3, 0, 1, 0, 1, 0, 0]);
         let craft = craft.quiet().quiet();
-        assert_eq!(rt; craft.word(5 + 20), 7);
+        assert_eq!(rt; craft.word(PARAMETERS + 20), 7);
     }
 
     #[test]
@@ -169,7 +173,7 @@ mod tests {
             .up(2, Command::Sleep);
         let craft = craft.quiet().quiet();
         assert_eq!(rt; craft.report, [5, 3, 1, 0, 1, 0, 0, 0]);
-        assert_eq!(rt; craft.word(5 + 20), 0);
+        assert_eq!(rt; craft.word(PARAMETERS + 20), 0);
     }
 
     #[test]
@@ -185,26 +189,38 @@ mod tests {
             craft = craft.quiet();
         }
         assert_eq!(rt; craft.report, [40, 34, 0, 1, 0, 0, 0, 0]);
-        assert_eq!(rt; craft.word(5 + 16), 100);
-        assert_eq!(rt; craft.word(5 + 47), 131);
+        assert_eq!(rt; craft.word(PARAMETERS + 16), 100);
+        assert_eq!(rt; craft.word(PARAMETERS + 47), 131);
     }
 
     #[test]
     fn past_its_limit_for_three_ticks(rt: HostRuntime) {
         let craft = Craft::launched().up(0, Command::Wake).up(1, watching());
         let craft = craft.read(12).read(9).read(11).read(13);
-        assert_eq!(rt; craft.word(2), 0);
+        assert_eq!(rt; craft.word(SAFE_MODE), 0);
         let craft = craft.read(10);
         assert_eq!(rt; craft.report, [7, 2, 1, 0, 0, 0, 0, 0]);
         let craft = craft.up(2, Command::Wake).read(12).read(13).read(10);
-        assert_eq!(rt; craft.word(2), 1);
+        assert_eq!(rt; craft.word(SAFE_MODE), 1);
         let craft = craft.read(14);
-        assert_eq!(rt; craft.word(278), 4);
-        let craft = craft.fly(
-            [0, 0, 14, 0, 0, 0, 0, 0, 0, 0, 0, 0, 0, 0, 0, 0],
-            &framed(3, watching()),
-        );
-        assert_eq!(rt; craft.word(278), 0);
+        assert_eq!(rt; craft.word(COUNTS), 4);
+        let craft = craft.fly(second(14), &framed(3, watching()));
+        assert_eq!(rt; craft.word(COUNTS), 0);
+    }
+
+    // `wake` comes up in the very tick in which the rule puts it to rest. It wakes, since the frame is looked at last; and
+    // though the value stays past the limit the rule does nothing more: it acts once in a stretch.
+    #[test]
+    fn woken_in_the_tick_of_the_rule(rt: HostRuntime) {
+        let craft = Craft::launched().up(0, Command::Wake).up(1, watching());
+        let craft = craft.read(12).read(9).read(11).read(13);
+        assert_eq!(rt; craft.word(COUNTS), 2);
+        let craft = craft.fly(second(10), &framed(2, Command::Wake));
+        assert_eq!(rt; craft.report, [7, 3, 0, 0, 0, 0, 0, 0]);
+        assert_eq!(rt; craft.word(COUNTS), 3);
+        let craft = craft.read(14);
+        assert_eq!(rt; craft.report, [8, 3, 0, 0, 0, 0, 0, 0]);
+        assert_eq!(rt; craft.word(COUNTS), 4);
     }
 
     // Rule 1 puts what rule 2 watches: the same tick. Rule 0 watches what rule 1 puts: the next tick.
@@ -215,10 +231,10 @@ mod tests {
             .up(1, passing(1, 2, 20, 50))
             .up(2, passing(2, 20, 21, 60));
         let craft = craft.read(5);
-        assert_eq!(rt; craft.word(5 + 20), 50);
-        assert_eq!(rt; craft.word(5 + 21), 60);
-        assert_eq!(rt; craft.word(5 + 22), 0);
-        assert_eq!(rt; craft.quiet().word(5 + 22), 70);
+        assert_eq!(rt; craft.word(PARAMETERS + 20), 50);
+        assert_eq!(rt; craft.word(PARAMETERS + 21), 60);
+        assert_eq!(rt; craft.word(PARAMETERS + 22), 0);
+        assert_eq!(rt; craft.quiet().word(PARAMETERS + 22), 70);
     }
 
     #[test]
@@ -230,6 +246,8 @@ mod tests {
         assert_eq!(rt; Refusal::Length(Lent::Frame).number(), 1);
         assert_eq!(rt; Refusal::Unfit { word: 70 }.number(), 2);
         assert_eq!(rt; Refusal::Unfit { word: 70 }.place(), 70);
+        assert_eq!(rt; Refusal::Unreadable { line: 4 }.number(), 3);
+        assert_eq!(rt; Refusal::Unreadable { line: 4 }.place(), 4);
     }
 
     #[test]
@@ -257,7 +275,7 @@ mod tests {
         );
         assert!(rt; memory == craft.memory);
         memory[70] = 2;
-        memory[294 + 70] = 2;
+        keep::<WORDS>(&mut memory);
         let hit = memory;
         assert_eq!(rt;
             tick(&mut memory, &QUIET, &[], &mut report),

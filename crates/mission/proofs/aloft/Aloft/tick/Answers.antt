@@ -1,6 +1,6 @@
 use Rattle.std.proofs.Common.{◌≡◌, rules, ℕ, List, length, replicate, Ok, Err, Result, Bor, refl, ap, sym, ◌∙◌, subst, inl, inr}
 use Rattle.std.specs.Result.{result_and}
-use Rattle.onboard.specs.declared.Refusal.{Refusal}
+use Rattle.refusal.specs.declared.Refusal.{Refusal}
 use Rattle.onboard.specs.Entry.{Says, GoesOn}
 use Rattle.mission.specs.declared.aloft.Output.{Output}
 use Rattle.mission.specs.Steps.{heard_of, output_of}

@@ -11,7 +11,7 @@ use rules::COUNT;
 impl Satellite {
     // The expected command is done or counted as rejected, and then the next one is expected.
     // Any other command is as if it had not come.
-    pub(crate) fn obey(&mut self, telecommand: Telecommand)
+    pub(super) fn obey(&mut self, telecommand: Telecommand)
         requires low_expected { self.old.expected ≤ most }
         requires low_rejected { self.old.rejected ≤ most }
         ensures { model self.new ≡ obeyed telecommand (model self.old) }

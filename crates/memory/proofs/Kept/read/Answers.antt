@@ -1,7 +1,7 @@
 use Rattle.std.proofs.Common.{◌∙◌, arith}
 use Rattle.std.proofs.lemmas.List.FromFn.{fill_by_all}
 use Rattle.memory.specs.Threefold.{voted, voted_words}
-use Rattle.memory.proofs.Copies.read.Goals as goal
+use Rattle.memory.proofs.Kept.read.Goals as goal
 
 pub returns : goal.returns
 unfolding voted_words
