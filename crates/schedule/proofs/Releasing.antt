@@ -1,6 +1,6 @@
 -- Activities looked at one after the other, each by its fate.
-use Rattle.std.proofs.Common.{◌≡◌, ℕ, ◌+◌, ◌<◌, ◌≤◌, Bool, true, false, cond, eqb, List, [], ◌∷◌, ◌++◌, ◌||◌, length, set, get_or, take, not, sym, refl, ap, ◌∙◌, subst, arith}
-use Rattle.std.specs.List.{filter, list_any}
+use Rattle.std.proofs.Common.{◌≡◌, ℕ, ◌+◌, ◌<◌, ◌≤◌, Bool, true, false, cond, eqb, List, [], ◌∷◌, ◌++◌, ◌||◌, length, set, get_or, take, sym, refl, ap, ◌∙◌, subst, arith}
+use Rattle.std.specs.List.{list_any}
 use Rattle.std.proofs.lemmas.List.Elements.{filter_more}
 use Rattle.std.proofs.lemmas.List.Filters.{length-filter_more}
 use Rattle.std.proofs.lemmas.Bool.{cond-false, true≢false}
@@ -28,18 +28,6 @@ wait_more t safe x xs false h f n =
 pub none_due : (t : ℕ) (xs : List Activity) → list_any (λ a. eqb a.release t) xs ≡ false → NothingDue t xs
 none_due t [] e safe = (refl, refl, refl)
 none_due t (x ∷ xs) e safe = wait_more t safe x xs (eqb x.release t) refl e (λ h. none_due t xs h safe)
-
--- whose time is not now waits on
-stays : (t : ℕ) (safe : Bool) (a : Activity) → not (eqb a.release t) ≡ is_waiting (fate_of a t safe)
-stays t safe a = go (eqb a.release t) safe where
-  go : (b c : Bool) → not b ≡ is_waiting (cond b (cond c Missed Done) Waits)
-  go true true = refl
-  go true false = refl
-  go false c = refl
-
-pub all_that_stay : (t : ℕ) (safe : Bool) (xs : List Activity) →
-    filter (λ a. not (eqb a.release t)) xs ≡ fated is_waiting (λ a. fate_of a t safe) xs
-all_that_stay t safe xs i = filter (λ a. stays t safe a i) xs
 
 -- what the first k were put, and how many of them were missed
 pub record Sofar (f : Activity → Fate) (before : List ℕ) (xs : List Activity) (k missed : ℕ)

@@ -1,6 +1,6 @@
 ghost use Rattle.std.specs.Prelude.{◌≡◌};
 ghost use Rattle.schedule.specs.Numbers.{activity_numbers, activity_in};
-ghost use Rattle.schedule.specs.Waiting.{fate_of};
+ghost use Rattle.schedule.specs.Waiting.{fate_of, is_waiting};
 
 /// A number that is put at a place in the tick of its release.
 #[derive(Clone, Copy, Default, PartialEq, Eq, Debug, Drop)]
@@ -30,6 +30,15 @@ impl Activity {
         } else {
             Fate::Done
         }
+    }
+}
+
+impl Fate {
+    // Whether it waits on.
+    pub(crate) fn waits(self) -> bool
+        ensures { result ≡ is_waiting self }
+    {
+        matches!(self, Fate::Waits)
     }
 }
 

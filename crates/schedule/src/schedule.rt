@@ -97,7 +97,8 @@ impl Schedule {
                 Fate::Done => parameters.put(activity.place, activity.number),
             }
         }
-        self.activities.retain(|activity| activity.release != time);
+        self.activities
+            .retain(|activity| activity.fate(time, safe_mode).waits());
         missed
     }
 }

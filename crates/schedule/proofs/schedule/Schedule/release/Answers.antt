@@ -2,9 +2,9 @@ use Rattle.std.proofs.Common.{ℕ, ◌+◌, ◌<◌, List, length, sym, ap, ◌�
 use Rattle.schedule.specs.declared.activity.Activity.{Activity}
 use Rattle.schedule.specs.declared.activity.Fate.{Fate}
 use Rattle.schedule.specs.declared.activity.Fate.TheVariants.{Waits, Missed, Done}
-use Rattle.schedule.specs.Waiting.{waiting, fate_of, put_all}
+use Rattle.schedule.specs.Waiting.{fate_of, put_all}
 use Rattle.arrayvec.proofs.ArrayVecLemmas.{filter-from_retain}
-use Rattle.schedule.proofs.Releasing.{Sofar, all_that_stay, next, moved}
+use Rattle.schedule.proofs.Releasing.{Sofar, next, moved}
 use Rattle.schedule.proofs.schedule.Schedule.release.Goals as goal
 use Rattle.schedule.proofs.schedule.Schedule.release.Goals.{in-Waits, in-Missed, in-Done}
 
@@ -18,7 +18,7 @@ pub returns-then-not-is_due-clause-missed : goal.returns-then-not-is_due-clause-
 returns-then-not-is_due-clause-missed c = ap length (sym (c.is_due.ensures.none c.if-not-is_due.true c.args.safe_mode).1)
 
 pub returns-clause-waiting : goal.returns-clause-waiting
-returns-clause-waiting c = filter-from_retain _ _ _ (λ x b f y called. search rules) _ _ c.retain.ensures.filtered ∙ all_that_stay c.args.time c.args.safe_mode (waiting c.args.self.now)
+returns-clause-waiting c = filter-from_retain _ _ _ (λ x b f y called. search rules) _ _ c.retain.ensures.filtered
 
 pub loop-activity-preserved : goal.loop-activity-preserved
 loop-activity-preserved c =
