@@ -1,6 +1,7 @@
--- Where the words of memory lie. Each part begins where the one before it ends, and is named here, once for definitions and
--- proofs; src/map.rt computes the same for the code, and the proofs compare both. Which number of an activity or of a rule
--- stands where in its own words, schedule and rules say (their Numbers.antt).
+-- Where the words of memory lie. Each part begins where the one before it ends, and is named here,
+-- once for definitions and proofs; src/map.rt computes the same for the code, and the proofs
+-- compare both. Which number of an activity or of a rule stands where in its own words, schedule
+-- and rules say (their Numbers.antt).
 --
 --   0           time
 --   1           expected
@@ -82,14 +83,17 @@ rule_words r = rule_numbers r
 
 -- activities one after the other, and noughts for those that could still come
 abbrev pub schedule_words : List Activity → List ℕ
-schedule_words xs = flat_map activity_words xs ++ replicate (activities_room - activity_size * length xs) 0
+schedule_words xs =
+    flat_map activity_words xs ++ replicate (activities_room - activity_size * length xs) 0
 
 -- the parts of memory, one after the other, and how long each is
 abbrev pub parts : State → List (List ℕ)
-parts s = head_words s ∷ (s.parameters ∷ ((length s.schedule ∷ []) ∷ (schedule_words s.schedule ∷ (flat_map rule_words s.rules ∷ (s.counts ∷ [])))))
+parts s =
+    head_words s ∷ s.parameters ∷ (length s.schedule ∷ []) ∷ schedule_words s.schedule
+    ∷ flat_map rule_words s.rules ∷ s.counts ∷ []
 
 abbrev pub sizes : List ℕ
-sizes = parameters_at ∷ (64 ∷ (1 ∷ (activities_room ∷ (rules_room ∷ (16 ∷ [])))))
+sizes = parameters_at ∷ 64 ∷ 1 ∷ activities_room ∷ rules_room ∷ 16 ∷ []
 
 abbrev pub joined : List (List ℕ) → List ℕ
 joined [] = []
@@ -139,14 +143,15 @@ pub record Sized (s : State) : Type 0 where
 abbrev pub ReadsBack : Type 0
 ReadsBack = (s : State) → Sized s → (length (words_of s) ≡ word_count) × (state_of (words_of s) ≡ s)
 
--- words of which nothing is read, or whether they are 1, hold 0 or 1: what no activity has, and the marks of safe mode and of rules
+-- words of which nothing is read, or whether they are 1, hold 0 or 1: what no activity has, and the
+-- marks of safe mode and of rules
 pub record Tidy (ws : List ℕ) : Type 0 where
   pub safe_mode : slice_index ws safe_mode_at ≤ 1
   pub upward : (i : ℕ) → i < 16 → slice_index ws (rules_at + 2 + rule_size * i) ≤ 1
   pub safes : (i : ℕ) → i < 16 → slice_index ws (rules_at + 4 + rule_size * i) ≤ 1
   pub beyond :
-      (j : ℕ) → activity_size * slice_index ws waiting_at ≤ j → j < activities_room →
-      slice_index ws (activities_at + j) ≤ 1
+      (j : ℕ) → activity_size * slice_index ws waiting_at ≤ j → j < activities_room
+      → slice_index ws (activities_at + j) ≤ 1
 
 -- words that a program may leave for a state: they say it, and they are tidy
 pub record Tells (ws : List ℕ) (s : State) : Type 0 where

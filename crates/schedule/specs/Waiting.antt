@@ -21,7 +21,8 @@ due now (a ∷ xs) = cond (a.release == now) (a ∷ due now xs) (due now xs)
 
 abbrev pub still_waiting : ℕ → List Activity → List Activity
 still_waiting now [] = []
-still_waiting now (a ∷ xs) = cond (a.release == now) (still_waiting now xs) (a ∷ still_waiting now xs)
+still_waiting now (a ∷ xs) =
+    cond (a.release == now) (still_waiting now xs) (a ∷ still_waiting now xs)
 
 -- what becomes of an activity in a tick, in safe mode or not
 abbrev pub fate_of : Activity → ℕ → Bool → Fate
@@ -48,7 +49,8 @@ fated p f xs = filter (λ a. p (f a)) xs
 
 -- all of them wait on, or it is the time of one of them
 abbrev pub AllWait : (Activity → Fate) → List Activity → Type 0
-AllWait f xs = (fated is_waiting f xs ≡ xs) × (fated is_missed f xs ≡ []) × (fated is_done f xs ≡ [])
+AllWait f xs =
+    (fated is_waiting f xs ≡ xs) × (fated is_missed f xs ≡ []) × (fated is_done f xs ≡ [])
 
 abbrev pub NothingDue : ℕ → List Activity → Type 0
 NothingDue now xs = (safe : Bool) → AllWait (λ a. fate_of a now safe) xs
