@@ -13,8 +13,8 @@ answer_of (Some t) = t.number * 4294967296 + t.place
 abbrev pub AnswersTick : ℕ → (memory readings frame report memory₁ report₁ : List ℕ) → Type 0
 AnswersTick n m r f t m₁ t₁ =
     (d : Result (Unit {0}) Refusal)
-    × ((n ≡ answer_of (answered d)) × Says d m r f t m₁ t₁
-    × KeepsState d m r f m₁ × GoesOn d m r f t m₁ t₁)
+    × ((n ≡ answer_of (answered d)) × Says d m r f t m₁ t₁ × KeepsState d m r f m₁
+    × GoesOn d m r f t m₁ t₁)
 
 abbrev pub AnswersLaunch : ℕ → (memory memory₁ : List ℕ) → Type 0
 AnswersLaunch n m m₁ =

@@ -1,13 +1,14 @@
 -- What a tick leaves of any words without fault is read as the state that it made.
-use Rattle.std.proofs.Common.{◌≡◌, ℕ, suc, ◌<◌, ◌≤◌, List, length, get_or, drop, sym, refl, ap, ◌∙◌, subst, inl, inr, ⊎_elim, arith, length-drop}
+use Rattle.std.proofs.Common.{◌≡◌, ℕ, zero, suc, ◌<◌, ◌≤◌, List, [], ◌∷◌, length, get_or, drop, sym, refl, ap, ◌∙◌, subst, inl, inr, ⊎_elim, arith, length-drop}
 use Rattle.std.proofs.lemmas.Bool.{cases_lt}
 use Rattle.std.proofs.lemmas.List.{get_or_past, length-take-le}
 use Rattle.std.proofs.lemmas.List.FromFn.{length-map-range_with_len}
 use Rattle.schedule.specs.declared.activity.Activity.{Activity}
 use Rattle.schedule.specs.Waiting.{no_activity}
+use Rattle.rules.specs.declared.rule.Rule.{Rule}
 use Rattle.rules.specs.Watching.{off}
 use Rattle.satellite.specs.Story.{Inputs, ticked}
-use Rattle.layout.specs.Map.{word_count, words_of, rule_at, rules_in, state_of, counts_at}
+use Rattle.layout.specs.Map.{word_count, words_of, rule_at, rules_in, state_of, parameters_at, waiting_at, counts_at}
 use Rattle.layout.specs.Fault.{Faultless, Sane}
 use Rattle.layout.proofs.Places.{length_words}
 use Rattle.layout.proofs.Back.{state_back}
@@ -52,7 +53,7 @@ rules_sound ws s k =
 
 lists_long : (ws : List ℕ) → length ws ≡ word_count → (length (state_of ws).parameters ≡ 64) × (length (state_of ws).counts ≡ 16)
 unfolding state_of
-lists_long ws e = (length-take-le 64 (drop 5 ws) (simp length-drop (omega arith)), length-take-le 16 (drop counts_at ws) (simp length-drop (omega arith)))
+lists_long ws e = (length-take-le 64 (drop parameters_at ws) (simp length-drop (omega arith)), length-take-le 16 (drop counts_at ws) (simp length-drop (omega arith)))
 
 pub sane_sound : (ws : List ℕ) → length ws ≡ word_count → Sane ws → Sound (state_of ws)
 sane_sound ws e s = let l = lists_long ws e in (waits_sound ws s, rules_sound ws s, l.0, rules_long ws, l.1)

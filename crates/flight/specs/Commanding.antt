@@ -39,14 +39,14 @@ first_sent sent (suc n) = sent n ∷ first_sent sent n
 -- each is obeyed once, in order, none left out
 abbrev pub EachOnce : Type 0
 EachOnce =
-    (sent : ℕ → Command) (is : List Inputs) → FromGround sent is →
-    obeyed_in is ≡ first_sent sent (after is).expected
+    (sent : ℕ → Command) (is : List Inputs) → FromGround sent is
+    → obeyed_in is ≡ first_sent sent (after is).expected
 
 -- a command that has the expected number comes through
 abbrev pub ComesThrough : Type 0
 ComesThrough =
-    (i : Inputs) (is : List Inputs) (c : Command) → Turn i is c →
-    (obeyed_in (i ∷ is) ≡ c ∷ obeyed_in is) × ((after (i ∷ is)).expected ≡ suc (after is).expected)
+    (i : Inputs) (is : List Inputs) (c : Command) → Turn i is c
+    → (obeyed_in (i ∷ is) ≡ c ∷ obeyed_in is) × ((after (i ∷ is)).expected ≡ suc (after is).expected)
 
 -- safe mode is had in the tick in which it is commanded
 abbrev pub SafeAtOnce : Type 0

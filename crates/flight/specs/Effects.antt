@@ -22,14 +22,27 @@ PutPlace a = (16 ≤ a) × (a ≤ 63)
 
 -- each command has its effect, and only that
 pub record CommandsAct : Type 0 where
-  pub put : (i : Inputs) (is : List Inputs) (a b : ℕ) → Turn i is (Command.Put a b) → PutPlace a → after (i ∷ is) ≡ with_parameters (slice_set (at_reception i (after is)).parameters a b) (next_expected i is)
-  pub later : (i : Inputs) (is : List Inputs) (a : Activity) → Turn i is (Command.Later a) → PutPlace a.place → (at_reception i (after is)).time < a.release → length (at_reception i (after is)).schedule < 32
-      → after (i ∷ is) ≡ with_schedule ((at_reception i (after is)).schedule ++ (a ∷ [])) (next_expected i is)
-  pub forget : (i : Inputs) (is : List Inputs) → Turn i is Command.Forget → after (i ∷ is) ≡ with_schedule [] (next_expected i is)
-  pub sleep : (i : Inputs) (is : List Inputs) → Turn i is Command.Sleep → after (i ∷ is) ≡ with_safe_mode true (next_expected i is)
-  pub wake : (i : Inputs) (is : List Inputs) → Turn i is Command.Wake → after (i ∷ is) ≡ with_safe_mode false (next_expected i is)
-  pub set_rule : (i : Inputs) (is : List Inputs) (k : ℕ) (r : Rule) → Turn i is (Command.SetRule k r) → k < 16 → r.watches ≤ 63 → (r.safes ≡ true) ⊎ PutPlace r.place
-      → after (i ∷ is) ≡ with_rules (slice_set (at_reception i (after is)).rules k r) (with_counts (slice_set (at_reception i (after is)).counts k 0) (next_expected i is))
+  pub put : (i : Inputs) (is : List Inputs) (a b : ℕ) → Turn i is (Command.Put a b) → PutPlace a
+      → after (i ∷ is)
+      ≡ with_parameters (slice_set (at_reception i (after is)).parameters a b)
+      (next_expected i is)
+  pub later : (i : Inputs) (is : List Inputs) (a : Activity) → Turn i is (Command.Later a)
+      → PutPlace a.place → (at_reception i (after is)).time < a.release
+      → length (at_reception i (after is)).schedule < 32
+      → after (i ∷ is)
+      ≡ with_schedule ((at_reception i (after is)).schedule ++ (a ∷ [])) (next_expected i is)
+  pub forget : (i : Inputs) (is : List Inputs) → Turn i is Command.Forget
+      → after (i ∷ is) ≡ with_schedule [] (next_expected i is)
+  pub sleep : (i : Inputs) (is : List Inputs) → Turn i is Command.Sleep
+      → after (i ∷ is) ≡ with_safe_mode true (next_expected i is)
+  pub wake : (i : Inputs) (is : List Inputs) → Turn i is Command.Wake
+      → after (i ∷ is) ≡ with_safe_mode false (next_expected i is)
+  pub set_rule : (i : Inputs) (is : List Inputs) (k : ℕ) (r : Rule)
+      → Turn i is (Command.SetRule k r) → k < 16 → r.watches ≤ 63
+      → (r.safes ≡ true) ⊎ PutPlace r.place
+      → after (i ∷ is)
+      ≡ with_rules (slice_set (at_reception i (after is)).rules k r)
+      (with_counts (slice_set (at_reception i (after is)).counts k 0) (next_expected i is))
 
 -- what cannot be done in a state
 pub data Undoable (s : State) : Command → Type 0 where
@@ -45,24 +58,34 @@ pub data Undoable (s : State) : Command → Type 0 where
   rule_high : (k : ℕ) (r : Rule) → r.safes ≡ false → 63 < r.place → Undoable s (Command.SetRule k r)
   no_kind : (kind : ℕ) → Undoable s (Command.Unknown kind)
 
--- what is not its turn, or is not whole, is as if it had not come; what cannot be done changes the two counters and nothing else
+-- what is not its turn, or is not whole, is as if it had not come; what cannot be done changes the
+-- two counters and nothing else
 pub record ElseIgnored : Type 0 where
-  pub nothing_came : (i : Inputs) (is : List Inputs) → heard i is ≡ None → after (i ∷ is) ≡ at_reception i (after is)
-  pub not_its_turn : (i : Inputs) (is : List Inputs) (t : Telecommand) → heard i is ≡ Some t → (t.number ≢ (after is).expected) → after (i ∷ is) ≡ at_reception i (after is)
-  pub undoable : (i : Inputs) (is : List Inputs) (c : Command) → Turn i is c → Undoable (at_reception i (after is)) c
-      → after (i ∷ is) ≡ with_rejected (suc (at_reception i (after is)).rejected) (next_expected i is)
+  pub nothing_came : (i : Inputs) (is : List Inputs) → heard i is ≡ None
+      → after (i ∷ is) ≡ at_reception i (after is)
+  pub not_its_turn : (i : Inputs) (is : List Inputs) (t : Telecommand) → heard i is ≡ Some t
+      → (t.number ≢ (after is).expected) → after (i ∷ is) ≡ at_reception i (after is)
+  pub undoable : (i : Inputs) (is : List Inputs) (c : Command) → Turn i is c
+      → Undoable (at_reception i (after is)) c
+      → after (i ∷ is)
+      ≡ with_rejected (suc (at_reception i (after is)).rejected) (next_expected i is)
 
--- until its command a tick leaves the expected number, the rejected ones and the rules as they were, and time goes on by one
+-- until its command a tick leaves the expected number, the rejected ones and the rules as they
+-- were, and time goes on by one
 abbrev pub TickKeeps : Type 0
 TickKeeps =
-    (i : Inputs) (s : State) →
-    at_reception i s ≡
-    with_time (suc s.time) (with_safe_mode (at_reception i s).safe_mode (with_missed (at_reception i s).missed
-    (with_parameters (at_reception i s).parameters (with_schedule (at_reception i s).schedule (with_counts (at_reception i s).counts s)))))
+    (i : Inputs) (s : State)
+    → at_reception i s ≡
+    with_time (suc s.time)
+    (with_safe_mode (at_reception i s).safe_mode (with_missed (at_reception i s).missed
+    (with_parameters (at_reception i s).parameters
+    (with_schedule (at_reception i s).schedule (with_counts (at_reception i s).counts s)))))
 
 -- after a tick the first sixteen parameters are what was read in it
 abbrev pub ReadsRight : Type 0
-ReadsRight = (i : Inputs) (is : List Inputs) (k : ℕ) → Lawful i → AllLawful machine is → k < 16 → parameter (after (i ∷ is)) k ≡ slice_index i.readings k
+ReadsRight =
+    (i : Inputs) (is : List Inputs) (k : ℕ) → Lawful i → AllLawful machine is → k < 16
+    → parameter (after (i ∷ is)) k ≡ slice_index i.readings k
 
 -- there are always 64 parameters, at most 32 activities, 16 rules and 16 counts
 abbrev pub KeepsSizes : Type 0

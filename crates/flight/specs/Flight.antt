@@ -35,7 +35,8 @@ machine = record {
 abbrev pub after : List Inputs → State
 after = story machine
 
--- a flight that led to this memory, of any program whose ticks leave tidy words that say the ticked state
+-- a flight that led to this memory, of any program whose ticks leave tidy words that say what the
+-- tick makes of what it reads
 abbrev pub Flew : List Inputs → List ℕ → Type 0
 Flew = Flown keeper machine
 
@@ -46,14 +47,14 @@ FliesRight = Flies keeper machine
 -- what a flight of fewer than 2^62 ticks leaves is not refused, however it was upset
 abbrev pub NeverRefused : Type 0
 NeverRefused =
-    (is : List Inputs) (kept found : List ℕ) → Flew is kept → keeper.Upset kept found →
-    length is < most → Faultless (keeper.read found)
+    (is : List Inputs) (kept found : List ℕ) → Flew is kept → keeper.Upset kept found
+    → length is < most → Faultless (keeper.read found)
 
--- one more tick of a flight, from whatever its memory became, makes the story's state, and the words of
--- that, stored, go on with the flight
+-- one more tick of a flight, from whatever its memory became, makes the story's state, and the
+-- words of that, stored, go on with it
 abbrev pub CarriesOn : Type 0
 CarriesOn =
-    (i : Inputs) (is : List Inputs) (kept found : List ℕ) → Flew is kept → keeper.Upset kept found →
-    Lawful i →
-    (satellite.ticked i (state_of (keeper.read found)) ≡ after (i ∷ is))
+    (i : Inputs) (is : List Inputs) (kept found : List ℕ) → Flew is kept → keeper.Upset kept found
+    → Lawful i
+    → (satellite.ticked i (state_of (keeper.read found)) ≡ after (i ∷ is))
     × Flew (i ∷ is) (keeper.stored (words_of (after (i ∷ is))))

@@ -1,5 +1,5 @@
--- A machine that keeps its state in a memory that radiation changes: what a flight of it is, whatever the
--- machine and however words are kept.
+-- A machine that keeps its state in a memory that radiation changes: what a flight of it is,
+-- whatever the machine and however words are kept.
 use Rattle.std.specs.Prelude.{◌≡◌, ℕ, List, [], ◌∷◌}
 use Rattle.memory.specs.Keeper.{Keeper, Mends}
 
@@ -27,8 +27,8 @@ pub data AllLawful (M : Machine) : List M.Input → Type 0 where
 abbrev pub Returns : Machine → Type 0
 Returns M = (words : List ℕ) (s : M.State) → M.Tells words s → M.state words ≡ s
 
--- a flight, of any program: at launch memory holds words for the first state; then, between two ticks, it
--- is upset, and each tick leaves words for what it makes of what it reads
+-- a flight, of any program: at launch memory holds words for the first state; then, between two
+-- ticks, it is upset, and each tick leaves words for what it makes of what it reads
 pub data Flown (K : Keeper) (M : Machine) : List M.Input → List ℕ → Type 0 where
   launched : (words left : List ℕ) → M.Tells words M.first → K.Holds left words → Flown K M [] left
   ticked : (i : M.Input) (is : List M.Input) (kept found words left : List ℕ) → Flown K M is kept
@@ -44,8 +44,8 @@ pub record Left (K : Keeper) (M : Machine) (left : List ℕ) (s : M.State) : Typ
 -- whatever the inputs and the upsets: what is read is the story's, and so is what was left
 pub record Flies (K : Keeper) (M : Machine) : Type 0 where
   pub reads :
-      (is : List M.Input) (kept found : List ℕ) → Flown K M is kept → K.Upset kept found →
-      M.state (K.read found) ≡ story M is
+      (is : List M.Input) (kept found : List ℕ) → Flown K M is kept → K.Upset kept found
+      → M.state (K.read found) ≡ story M is
   pub holds : (is : List M.Input) (kept : List ℕ) → Flown K M is kept → Left K M kept (story M is)
 
 -- this holds of every keeper that mends and every machine that reads back what may be left

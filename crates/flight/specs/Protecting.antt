@@ -41,9 +41,9 @@ past_for k r (i ∷ late) early =
 -- the count of a rule, since it was set
 abbrev pub CountsRight : Type 0
 CountsRight =
-    (k : ℕ) (r : Rule) (late early : List Inputs) → AllLawful machine (late ++ early) → k < 16 →
-    rule (after early) k ≡ r → count (after early) k ≡ 0 →
-    Unset k late early → count (after (late ++ early)) k ≡ past_for k r late early
+    (k : ℕ) (r : Rule) (late early : List Inputs) → AllLawful machine (late ++ early) → k < 16
+    → rule (after early) k ≡ r → count (after early) k ≡ 0
+    → Unset k late early → count (after (late ++ early)) k ≡ past_for k r late early
 
 -- of an instrument, that is what it read
 abbrev pub read_past_for : Rule → List Inputs → ℕ
@@ -53,17 +53,17 @@ read_past_for r (i ∷ late) =
 
 abbrev pub InstrumentsRight : Type 0
 InstrumentsRight =
-    (k : ℕ) (r : Rule) (late early : List Inputs) → AllLawful machine (late ++ early) → k < 16 →
-    r.watches < 16 → rule (after early) k ≡ r → count (after early) k ≡ 0 →
-    Unset k late early → count (after (late ++ early)) k ≡ read_past_for r late
+    (k : ℕ) (r : Rule) (late early : List Inputs) → AllLawful machine (late ++ early) → k < 16
+    → r.watches < 16 → rule (after early) k ≡ r → count (after early) k ≡ 0
+    → Unset k late early → count (after (late ++ early)) k ≡ read_past_for r late
 
 -- a rule that is set begins from 0
 abbrev pub BeginsAnew : Type 0
 BeginsAnew =
-    (i : Inputs) (is : List Inputs) (k : ℕ) (r : Rule) → AllLawful machine (i ∷ is) →
-    Turn i is (Command.SetRule k r) → k < 16 → r.watches ≤ 63 →
-    (r.safes ≡ true) ⊎ ((16 ≤ r.place) × (r.place ≤ 63)) →
-    (rule (after (i ∷ is)) k ≡ r) × (count (after (i ∷ is)) k ≡ 0)
+    (i : Inputs) (is : List Inputs) (k : ℕ) (r : Rule) → AllLawful machine (i ∷ is)
+    → Turn i is (Command.SetRule k r) → k < 16 → r.watches ≤ 63
+    → (r.safes ≡ true) ⊎ ((16 ≤ r.place) × (r.place ≤ 63))
+    → (rule (after (i ∷ is)) k ≡ r) × (count (after (i ∷ is)) k ≡ 0)
 
 -- rule k acts in a tick: it is on, and its count has just become what it needs
 pub record Acting (k : ℕ) (i : Inputs) (is : List Inputs) : Type 0 where
@@ -103,17 +103,17 @@ pub record Putting (k p : ℕ) (i : Inputs) (is : List Inputs) : Type 0 where
 -- at each look the last rule before it that acts for a place has put its number there
 abbrev pub RulesPut : Type 0
 RulesPut =
-    (i : Inputs) (is : List Inputs) (k j p : ℕ) → AllLawful machine (i ∷ is) → k ≤ 16 → j < k →
-    Putting j p i is → ((l : ℕ) → j < l → l < k → Putting l p i is → ⊥) →
-    parameter (at_look k i is) p ≡ (rule (after is) j).number
+    (i : Inputs) (is : List Inputs) (k j p : ℕ) → AllLawful machine (i ∷ is) → k ≤ 16 → j < k
+    → Putting j p i is → ((l : ℕ) → j < l → l < k → Putting l p i is → ⊥)
+    → parameter (at_look k i is) p ≡ (rule (after is) j).number
 
 -- a place that is no instrument's, and for which no rule before that look acts, holds what the
 -- tick before left there
 abbrev pub ElseUntouched : Type 0
 ElseUntouched =
-    (i : Inputs) (is : List Inputs) (k p : ℕ) → AllLawful machine (i ∷ is) → k ≤ 16 → 16 ≤ p →
-    ((j : ℕ) → j < k → Putting j p i is → ⊥) →
-    parameter (at_look k i is) p ≡ parameter (after is) p
+    (i : Inputs) (is : List Inputs) (k p : ℕ) → AllLawful machine (i ∷ is) → k ≤ 16 → 16 ≤ p
+    → ((j : ℕ) → j < k → Putting j p i is → ⊥)
+    → parameter (at_look k i is) p ≡ parameter (after is) p
 
 -- at each look the instruments' places hold what was read, and after the last one activities are
 -- released

@@ -26,8 +26,8 @@ pub data Parts (now : ℕ) : (all due others : List Activity) → Type 0 where
 -- and in their order
 abbrev pub PartsInTick : Type 0
 PartsInTick =
-    (i : Inputs) (is : List Inputs) →
-    Parts (suc (after is).time) (after is).schedule
+    (i : Inputs) (is : List Inputs)
+    → Parts (suc (after is).time) (after is).schedule
     (due (suc (after is).time) (after is).schedule) (at_reception i (after is)).schedule
 
 -- what becomes in a tick of an activity that waits
@@ -46,15 +46,15 @@ pub record EachActivity : Type 0 where
 -- none is kept past its time
 abbrev pub NeverLate : Type 0
 NeverLate =
-    (is : List Inputs) (a : Activity) → AllLawful machine is → Among a (after is).schedule →
-    (after is).time < a.release
+    (is : List Inputs) (a : Activity) → AllLawful machine is → Among a (after is).schedule
+    → (after is).time < a.release
 
 -- what waits on after the release stays through the command, unless that is forget; a later that
 -- is done adds one behind; no other command touches it
 abbrev pub KeptTillDue : Type 0
 KeptTillDue =
-    (i : Inputs) (is : List Inputs) → (Turn i is Command.Forget → ⊥) →
-    ((after (i ∷ is)).schedule ≡ (at_reception i (after is)).schedule)
+    (i : Inputs) (is : List Inputs) → (Turn i is Command.Forget → ⊥)
+    → ((after (i ∷ is)).schedule ≡ (at_reception i (after is)).schedule)
     ⊎ ((a : Activity) × Turn i is (Command.Later a)
     × ((after (i ∷ is)).schedule ≡ (at_reception i (after is)).schedule ++ (a ∷ [])))
 
@@ -68,15 +68,15 @@ pub record LastForPlace (a : Activity) (all : List Activity) : Type 0 where
 -- of those that wait for one place and one time there is always a last
 abbrev pub OneIsLast : Type 0
 OneIsLast =
-    (a : Activity) (all : List Activity) → Among a all →
-    (l : Activity) × LastForPlace l all × (l.release ≡ a.release) × (l.place ≡ a.place)
+    (a : Activity) (all : List Activity) → Among a all
+    → (l : Activity) × LastForPlace l all × (l.release ≡ a.release) × (l.place ≡ a.place)
 
 -- in its tick the last activity for its place is what stands there, outside safe mode
 abbrev pub PutWhenDue : Type 0
 PutWhenDue =
-    (i : Inputs) (is : List Inputs) (a : Activity) → AllLawful machine (i ∷ is) →
-    (at_release i (after is)).safe_mode ≡ false → LastForPlace a (after is).schedule →
-    a.release ≡ suc (after is).time → parameter (at_reception i (after is)) a.place ≡ a.number
+    (i : Inputs) (is : List Inputs) (a : Activity) → AllLawful machine (i ∷ is)
+    → (at_release i (after is)).safe_mode ≡ false → LastForPlace a (after is).schedule
+    → a.release ≡ suc (after is).time → parameter (at_reception i (after is)) a.place ≡ a.number
 
 -- no activity for a place is due in the next tick
 abbrev pub NoneDue : ℕ → List Inputs → Type 0
@@ -86,14 +86,14 @@ NoneDue p is =
 -- such a place keeps what the rules left there
 abbrev pub ElseKept : Type 0
 ElseKept =
-    (i : Inputs) (is : List Inputs) (p : ℕ) → NoneDue p is →
-    parameter (at_reception i (after is)) p ≡ parameter (at_release i (after is)) p
+    (i : Inputs) (is : List Inputs) (p : ℕ) → NoneDue p is
+    → parameter (at_reception i (after is)) p ≡ parameter (at_release i (after is)) p
 
 -- in safe mode no parameter changes by an activity, and each that is due is counted as missed
 abbrev pub MissedInSafeMode : Type 0
 MissedInSafeMode =
-    (i : Inputs) (is : List Inputs) → (at_release i (after is)).safe_mode ≡ true →
-    ((at_reception i (after is)).parameters ≡ (at_release i (after is)).parameters)
+    (i : Inputs) (is : List Inputs) → (at_release i (after is)).safe_mode ≡ true
+    → ((at_reception i (after is)).parameters ≡ (at_release i (after is)).parameters)
     × ((at_reception i (after is)).missed
     ≡ (after is).missed + length (due (suc (after is).time) (after is).schedule))
 

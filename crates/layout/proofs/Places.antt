@@ -6,7 +6,7 @@ use Rattle.std.proofs.lemmas.List.{append-nil, get_or-replicate}
 use Rattle.schedule.specs.Waiting.{no_activity}
 use Rattle.rules.specs.Watching.{off}
 use Rattle.satellite.specs.State.{State, parameter, rule, count}
-use Rattle.layout.specs.Map.{activity_words, rule_words, schedule_words, words_of, Sized, activity_size, rule_size, waiting_at, activities_at, activities_room, rules_at, rules_room, counts_at, word_count, parts, sizes}
+use Rattle.layout.specs.Map.{activity_words, rule_words, schedule_words, words_of, Sized, activity_size, rule_size, parameters_at, waiting_at, activities_at, activities_room, rules_at, rules_room, counts_at, word_count, parts, sizes}
 use Rattle.layout.proofs.Units.{length_joined, getD_joined}
 use Rattle.layout.proofs.Joined.{Fit, offset, behind, all_long, part_word, whole_part}
 
@@ -42,10 +42,10 @@ pub head_word : (s : State) → (get_or (words_of s) 0 0 ≡ s.time) × (get_or 
 unfolding words_of
 head_word s = (refl, refl, refl, refl)
 
-pub parameter_word : (s : State) → Sized s → (k : ℕ) → k < 64 → get_or (words_of s) (5 + k) 0 ≡ parameter s k
+pub parameter_word : (s : State) → Sized s → (k : ℕ) → k < 64 → get_or (words_of s) (parameters_at + k) 0 ≡ parameter s k
 parameter_word s z k l = word s z 1 k l
 
-pub parameter_words : (s : State) → Sized s → take 64 (drop 5 (words_of s)) ≡ s.parameters
+pub parameter_words : (s : State) → Sized s → take 64 (drop parameters_at (words_of s)) ≡ s.parameters
 parameter_words s z = part_is s z 1 (omega arith)
 
 pub waiting_word : (s : State) → Sized s → get_or (words_of s) waiting_at 0 ≡ length s.schedule

@@ -5,10 +5,10 @@ use Rattle.std.proofs.lemmas.List.{get_or-take, get_or-drop}
 use Rattle.schedule.specs.Waiting.{no_activity}
 use Rattle.rules.specs.Watching.{off}
 use Rattle.satellite.specs.State.{parameter, rule, count}
-use Rattle.layout.specs.Map.{activity_at, rule_at, schedule_in, rules_in, state_of, time_at, waiting_at, counts_at}
+use Rattle.layout.specs.Map.{activity_at, rule_at, schedule_in, rules_in, state_of, time_at, expected_at, rejected_at, missed_at, parameters_at, waiting_at, counts_at}
 
 pub heads_said : (ws : List ℕ)
-    → ((state_of ws).time ≡ get_or ws time_at 0) × ((state_of ws).expected ≡ get_or ws 1 0) × ((state_of ws).rejected ≡ get_or ws 3 0) × ((state_of ws).missed ≡ get_or ws 4 0)
+    → ((state_of ws).time ≡ get_or ws time_at 0) × ((state_of ws).expected ≡ get_or ws expected_at 0) × ((state_of ws).rejected ≡ get_or ws rejected_at 0) × ((state_of ws).missed ≡ get_or ws missed_at 0)
 unfolding state_of
 heads_said ws = (refl, refl, refl, refl)
 
@@ -24,9 +24,9 @@ pub rule_said : (ws : List ℕ) (k : ℕ) → k < 16 → rule (state_of ws) k �
 unfolding state_of rules_in
 rule_said ws k l = get_or-map-range_with_len (rule_at ws) 0 16 k k off l (omega arith)
 
-pub parameter_said : (ws : List ℕ) (k : ℕ) → k < 64 → parameter (state_of ws) k ≡ get_or ws (5 + k) 0
+pub parameter_said : (ws : List ℕ) (k : ℕ) → k < 64 → parameter (state_of ws) k ≡ get_or ws (parameters_at + k) 0
 unfolding state_of
-parameter_said ws k l = get_or-take 64 (drop 5 ws) k 0 l ∙ get_or-drop 5 ws k 0
+parameter_said ws k l = get_or-take 64 (drop parameters_at ws) k 0 l ∙ get_or-drop parameters_at ws k 0
 
 pub count_said : (ws : List ℕ) (k : ℕ) → k < 16 → count (state_of ws) k ≡ get_or ws (counts_at + k) 0
 unfolding state_of

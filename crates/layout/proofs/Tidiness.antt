@@ -7,7 +7,7 @@ use Rattle.rules.specs.declared.rule.Rule.{Rule}
 use Rattle.parameters.specs.Places.{may_put}
 use Rattle.satellite.specs.State.{State, parameter, rule, count}
 use Rattle.satellite.specs.Fit.{most}
-use Rattle.layout.specs.Map.{bit, words_of, activity_at, rule_at, state_of, Sized, Tidy, Tells, activity_size, rule_size, time_at, safe_mode_at, waiting_at, activities_at, rules_at, counts_at, word_count}
+use Rattle.layout.specs.Map.{bit, words_of, activity_at, rule_at, state_of, Sized, Tidy, Tells, activity_size, rule_size, time_at, safe_mode_at, parameters_at, waiting_at, activities_at, activities_room, rules_at, counts_at, word_count}
 use Rattle.layout.specs.Fault.{Sane, TidyRight}
 use Rattle.layout.proofs.Places.{waiting_word, rule_word, nought_word}
 use Rattle.layout.proofs.Back.{state_back}
@@ -60,7 +60,7 @@ Most ws k = get_or ws k 0 ≤ most
 moved : (ws vs : List ℕ) (at k : ℕ) → at ≡ k → get_or ws at 0 ≡ get_or vs at 0 → Most vs k → Most ws k
 moved ws vs at k e d h = subst (Most ws) e (subst (λ n. n ≤ most) (sym d) (subst (Most vs) (sym e) h))
 
-head_most : (ws vs : List ℕ) → state_of ws ≡ state_of vs → Tidy ws → (k : ℕ) → k < 5 → Most vs k → Most ws k
+head_most : (ws vs : List ℕ) → state_of ws ≡ state_of vs → Tidy ws → (k : ℕ) → k < parameters_at → Most vs k → Most ws k
 head_most ws vs e t zero l h = let d = time_same ws vs e in omega arith
 head_most ws vs e t (suc zero) l h = moved ws vs 1 1 refl (sym (heads_said ws).1 ∙ ap (λ (s : State). s.expected) e ∙ (heads_said vs).1) h
 head_most ws vs e t (suc (suc zero)) l h = let d = t.safe_mode in omega arith
@@ -95,13 +95,13 @@ schedule_most ws vs e t k a b h =
 
 each_most : (ws vs : List ℕ) → state_of ws ≡ state_of vs → Tidy ws → (k : ℕ) → k < word_count → Most vs k → Most ws k
 each_most ws vs e t k l h =
-    ⊎_elim (λ (a : k < 5). head_most ws vs e t k a h) (λ (a : 5 ≤ k). ⊎_elim
-    (λ (b : k < waiting_at). moved ws vs (5 + (k - 5)) k (omega arith) (sym (parameter_said ws (k - 5) (omega arith)) ∙ ap (λ (s : State). parameter s (k - 5)) e ∙ parameter_said vs (k - 5) (omega arith)) h)
+    ⊎_elim (λ (a : k < parameters_at). head_most ws vs e t k a h) (λ (a : parameters_at ≤ k). ⊎_elim
+    (λ (b : k < waiting_at). moved ws vs (parameters_at + (k - parameters_at)) k (omega arith) (sym (parameter_said ws (k - parameters_at) (omega arith)) ∙ ap (λ (s : State). parameter s (k - parameters_at)) e ∙ parameter_said vs (k - parameters_at) (omega arith)) h)
     (λ (b : waiting_at ≤ k). ⊎_elim (λ (c : k < activities_at). moved ws vs waiting_at k (omega arith) (waits_same ws vs e) h)
     (λ (c : activities_at ≤ k). ⊎_elim (λ (d : k < rules_at). schedule_most ws vs e t k c d h)
     (λ (d : rules_at ≤ k). ⊎_elim (λ (f : k < counts_at). rule_most ws vs e t ((k - rules_at) / rule_size) ((k - rules_at) % rule_size) k (omega arith) (omega arith) (omega arith) h)
     (λ (f : counts_at ≤ k). moved ws vs (counts_at + (k - counts_at)) k (omega arith) (sym (count_said ws (k - counts_at) (omega arith)) ∙ ap (λ (s : State). count s (k - counts_at)) e ∙ count_said vs (k - counts_at) (omega arith)) h)
-    (cases_lt k counts_at)) (cases_lt k rules_at)) (cases_lt k activities_at)) (cases_lt k waiting_at)) (cases_lt k 5)
+    (cases_lt k counts_at)) (cases_lt k rules_at)) (cases_lt k activities_at)) (cases_lt k waiting_at)) (cases_lt k parameters_at)
 
 -- what `Sane` says of an activity and of a rule
 abbrev LaterThan : ℕ → Activity → Type 0

@@ -10,14 +10,16 @@ use Rattle.layout.specs.Map.{Sized, Tells, words_of, time_at, word_count, activi
 abbrev pub activity_fault : List ℕ → ℕ → Bool
 activity_fault ws k =
     nat_lt ((k - activities_at) / activity_size) (slice_index ws waiting_at)
-    && cond ((k - activities_at) % activity_size == 0) (nat_le (slice_index ws k) (slice_index ws time_at))
+    && cond ((k - activities_at) % activity_size == 0)
+    (nat_le (slice_index ws k) (slice_index ws time_at))
     ((k - activities_at) % activity_size == 1 && not (may_put (slice_index ws k)))
 
 -- of a rule: it watches no parameter, or it is on and puts where it may not
 abbrev pub rule_fault : List ℕ → ℕ → Bool
 rule_fault ws k =
     cond ((k - rules_at) % rule_size == 0) (nat_le 64 (slice_index ws k))
-    ((k - rules_at) % rule_size == 5 && (nat_le 1 (slice_index ws (k - 2))
+    ((k - rules_at) % rule_size == 5
+    && (nat_le 1 (slice_index ws (k - 2))
     && (not (slice_index ws (k - 1) == 1) && not (may_put (slice_index ws k)))))
 
 -- word k is at fault
@@ -42,8 +44,9 @@ Lowest ws (Some k) =
 unfoldable pub lowest_fault : List ℕ → Option ℕ
 lowest_fault ws = find (at_fault ws) (range_with_len 0 word_count)
 
--- the same in the words of the map: no word is past 2^62, at most 32 activities wait, each for a time after now and a place that may be put,
--- and each rule watches a parameter and is off, puts to safe mode, or puts where it may
+-- the same in the words of the map: no word is past 2^62, at most 32 activities wait, each for a
+-- time after now and a place that may be put, and each rule watches a parameter and is off, puts to
+-- safe mode, or puts where it may
 abbrev pub Small : List ℕ → Type 0
 Small ws = (k : ℕ) → k < word_count → slice_index ws k ≤ most
 
@@ -75,9 +78,9 @@ pub record FaultsRight : Type 0 where
   pub complete : (ws : List ℕ) → Sane ws → Faultless ws
   pub lowest : (ws : List ℕ) → Lowest ws (lowest_fault ws)
 
--- what is written for a state may be left for it, and what may be left for it is at fault no more than that
+-- what is written for a state may be left for it; and whatever may be left for it is at fault no
+-- more than what is written
 pub record TidyRight : Type 0 where
   pub written : (s : State) → Sized s → Tells (words_of s) s
-  pub faultless :
-      (ws : List ℕ) (s : State) → Sized s → Tells ws s → Faultless (words_of s) →
-      Faultless ws
+  pub faultless : (ws : List ℕ) (s : State) → Sized s → Tells ws s → Faultless (words_of s)
+      → Faultless ws

@@ -1,5 +1,7 @@
--- Where the words of memory lie. This table and the names below say where each part begins, and nothing
--- else does; in which order an activity and a rule have their numbers, schedule and rules say.
+-- Where the words of memory lie. Each part begins where the one before it ends, and is named here,
+-- once for definitions and proofs; src/map.rt computes the same for the code, and the proofs
+-- compare both. Which number of an activity or of a rule stands where in its own words, schedule
+-- and rules say (their Numbers.antt).
 --
 --   0           time
 --   1           expected
@@ -30,11 +32,23 @@ rule_size = 7
 abbrev pub time_at : ℕ
 time_at = 0
 
+abbrev pub expected_at : ℕ
+expected_at = time_at + 1
+
 abbrev pub safe_mode_at : ℕ
-safe_mode_at = 2
+safe_mode_at = expected_at + 1
+
+abbrev pub rejected_at : ℕ
+rejected_at = safe_mode_at + 1
+
+abbrev pub missed_at : ℕ
+missed_at = rejected_at + 1
+
+abbrev pub parameters_at : ℕ
+parameters_at = missed_at + 1
 
 abbrev pub waiting_at : ℕ
-waiting_at = 5 + 64
+waiting_at = parameters_at + 64
 
 abbrev pub activities_at : ℕ
 activities_at = waiting_at + 1
@@ -69,14 +83,17 @@ rule_words r = rule_numbers r
 
 -- activities one after the other, and noughts for those that could still come
 abbrev pub schedule_words : List Activity → List ℕ
-schedule_words xs = flat_map activity_words xs ++ replicate (activities_room - activity_size * length xs) 0
+schedule_words xs =
+    flat_map activity_words xs ++ replicate (activities_room - activity_size * length xs) 0
 
 -- the parts of memory, one after the other, and how long each is
 abbrev pub parts : State → List (List ℕ)
-parts s = head_words s ∷ (s.parameters ∷ ((length s.schedule ∷ []) ∷ (schedule_words s.schedule ∷ (flat_map rule_words s.rules ∷ (s.counts ∷ [])))))
+parts s =
+    head_words s ∷ s.parameters ∷ (length s.schedule ∷ []) ∷ schedule_words s.schedule
+    ∷ flat_map rule_words s.rules ∷ s.counts ∷ []
 
 abbrev pub sizes : List ℕ
-sizes = 5 ∷ (64 ∷ (1 ∷ (activities_room ∷ (rules_room ∷ (16 ∷ [])))))
+sizes = parameters_at ∷ 64 ∷ 1 ∷ activities_room ∷ rules_room ∷ 16 ∷ []
 
 abbrev pub joined : List (List ℕ) → List ℕ
 joined [] = []
@@ -104,12 +121,12 @@ rules_in ws = map (rule_at ws) (range_with_len 0 16)
 
 unfoldable pub state_of : List ℕ → State
 state_of ws = record {
-  time = slice_index ws 0;
-  expected = slice_index ws 1;
-  safe_mode = (slice_index ws 2 == 1);
-  rejected = slice_index ws 3;
-  missed = slice_index ws 4;
-  parameters = take 64 (drop 5 ws);
+  time = slice_index ws time_at;
+  expected = slice_index ws expected_at;
+  safe_mode = (slice_index ws safe_mode_at == 1);
+  rejected = slice_index ws rejected_at;
+  missed = slice_index ws missed_at;
+  parameters = take 64 (drop parameters_at ws);
   schedule = schedule_in ws;
   rules = rules_in ws;
   counts = take 16 (drop counts_at ws);
@@ -133,8 +150,8 @@ pub record Tidy (ws : List ℕ) : Type 0 where
   pub upward : (i : ℕ) → i < 16 → slice_index ws (rules_at + 2 + rule_size * i) ≤ 1
   pub safes : (i : ℕ) → i < 16 → slice_index ws (rules_at + 4 + rule_size * i) ≤ 1
   pub beyond :
-      (j : ℕ) → activity_size * slice_index ws waiting_at ≤ j → j < activities_room →
-      slice_index ws (activities_at + j) ≤ 1
+      (j : ℕ) → activity_size * slice_index ws waiting_at ≤ j → j < activities_room
+      → slice_index ws (activities_at + j) ≤ 1
 
 -- words that a program may leave for a state: they say it, and they are tidy
 pub record Tells (ws : List ℕ) (s : State) : Type 0 where

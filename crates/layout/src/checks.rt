@@ -39,7 +39,9 @@ fn small(words: &[u64; WORDS]) -> bool
 
 fn activities_sane(words: &[u64; WORDS]) -> bool
     requires { slice_index words.now waiting_at ≤ 32 }
-    ensures { result ≡ true → ((i : ℕ) → i < slice_index words.now waiting_at → Later words.now i × MayPut words.now i) }
+    ensures { result ≡ true
+        → ((i : ℕ) → i < slice_index words.now waiting_at
+        → Later words.now i × MayPut words.now i) }
 {
     (0..words[WAITING] as usize).all(|i| activity_sane(words[TIME], activity(words, i)))
 }
@@ -57,7 +59,9 @@ fn rules_sane(words: &[u64; WORDS]) -> bool
 }
 
 fn rule_sane(rule: Rule) -> bool
-    ensures { result ≡ true → (rule.watches < 64) × ((rule.needs ≡ 0) ⊎ ((rule.safes ≡ true) ⊎ (may_put rule.place ≡ true))) }
+    ensures { result ≡ true
+        → (rule.watches < 64)
+        × ((rule.needs ≡ 0) ⊎ ((rule.safes ≡ true) ⊎ (may_put rule.place ≡ true))) }
 {
     rule.watches < PLACES as u64 && (rule.needs == 0 || rule.safes || may_put(rule.place))
 }

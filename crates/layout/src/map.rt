@@ -7,18 +7,18 @@ use schedule::ROOM;
 /// How many words the satellite has.
 pub const WORDS: usize = COUNTS + COUNT;
 
-// Where they lie.
+// Where they lie: each part begins where the one before it ends.
 pub const TIME: usize = 0;
 
-pub const EXPECTED: usize = 1;
+pub const EXPECTED: usize = TIME + 1;
 
-pub const SAFE_MODE: usize = 2;
+pub const SAFE_MODE: usize = EXPECTED + 1;
 
-pub const REJECTED: usize = 3;
+pub const REJECTED: usize = SAFE_MODE + 1;
 
-pub const MISSED: usize = 4;
+pub const MISSED: usize = REJECTED + 1;
 
-pub const PARAMETERS: usize = 5;
+pub const PARAMETERS: usize = MISSED + 1;
 
 pub const WAITING: usize = PARAMETERS + PLACES;
 

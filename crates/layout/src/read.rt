@@ -1,8 +1,9 @@
 ghost use Rattle.std.specs.Prelude.{◌≡◌, ◌+◌, ◌<◌, ◌≤◌, map, take, drop, slice_index};
 ghost use Rattle.std.specs.List.{range_with_len};
 ghost use Rattle.rules.specs.Monitors.{rule_of, count_of};
+ghost use Rattle.schedule.specs.Waiting.{waiting};
 ghost use Rattle.satellite.specs.Model.{model};
-ghost use Rattle.layout.specs.Map.{activity_at, monitor_at, rules_in, state_of, waiting_at, counts_at, word_count};
+ghost use Rattle.layout.specs.Map.{activity_at, monitor_at, rules_in, schedule_in, state_of, waiting_at, counts_at, word_count};
 
 use crate::map::{
     ACTIVITIES, ACTIVITY, COUNTS, EXPECTED, MISSED, PARAMETERS, REJECTED, RULE, RULES, SAFE_MODE,
@@ -10,7 +11,7 @@ use crate::map::{
 };
 use rules::{Monitor, Rule};
 use satellite::Satellite;
-use schedule::Activity;
+use schedule::{Activity, Schedule};
 
 /// The satellite that words say. No `From`: this crate owns neither type.
 pub fn satellite(words: &[u64; WORDS]) -> Satellite
@@ -37,17 +38,18 @@ fn fill(words: &[u64; WORDS], satellite: &mut Satellite)
         .parameters
         .values
         .copy_from_slice(&words[PARAMETERS..WAITING]);
-    satellite.schedule.count = words[WAITING] as usize;
-    fill_activities(words, &mut satellite.schedule.activities);
+    fill_schedule(words, &mut satellite.schedule);
     fill_monitors(words, &mut satellite.rules.monitors);
 }
 
-// All that there is room for, whether they wait or not.
-fn fill_activities(words: &[u64; WORDS], activities: &mut [Activity; 32])
-    ensures { activities.new ≡ map (activity_at words.now) (range_with_len 0 32) }
+// Those that wait, one after the other.
+fn fill_schedule(words: &[u64; WORDS], schedule: &mut Schedule)
+    requires { slice_index words.now waiting_at ≤ 32 }
+    ensures { waiting schedule.new ≡ schedule_in words.now }
 {
-    for (k, room) in activities.iter_mut().enumerate() {
-        *room = activity(words, k);
+    schedule.clear();
+    for k in 0..words[WAITING] as usize {
+        schedule.add(activity(words, k));
     }
 }
 

@@ -38,7 +38,10 @@ pub fn write_words(satellite: &Satellite, words: &mut [u64; WORDS])
 // nothing is proved. And arrays of the numbers of all, made by `map` and laid at once, are cleared and copied as a whole.
 fn lay_activities(words: &mut [u64; WORDS], waiting: &[Activity])
     requires { length waiting.now ≤ 32 }
-    ensures { words.new ≡ take activities_at words.old ++ (flat_map activity_words waiting.now ++ drop (activities_at + activity_size * length waiting.now) words.old) }
+    ensures { words.new
+        ≡ take activities_at words.old
+        ++ (flat_map activity_words waiting.now
+        ++ drop (activities_at + activity_size * length waiting.now) words.old) }
 {
     for (k, activity) in waiting.iter().enumerate() {
         let numbers = <[u64; ACTIVITY]>::from(*activity);
@@ -47,7 +50,9 @@ fn lay_activities(words: &mut [u64; WORDS], waiting: &[Activity])
 }
 
 fn lay_rules(words: &mut [u64; WORDS], monitors: &[Monitor; 16])
-    ensures laid { words.new ≡ take rules_at words.old ++ (flat_map rule_words (map rule_of monitors.now) ++ drop counts_at words.old) }
+    ensures laid { words.new
+        ≡ take rules_at words.old
+        ++ (flat_map rule_words (map rule_of monitors.now) ++ drop counts_at words.old) }
     ensures long { length monitors.now ≡ 16 }
 {
     for (k, monitor) in monitors.iter().enumerate() {

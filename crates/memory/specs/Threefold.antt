@@ -1,4 +1,4 @@
--- Words kept three times, copy after copy: n words are 3 * n numbers, copy c of word k number c * n + k.
+-- Words kept three times, copy after copy: n words are 3 * n numbers, and copy c of word k is number c * n + k.
 use Rattle.std.specs.Prelude.{◌≡◌, ℕ, ◌+◌, ◌*◌, ◌<◌, cond, ◌⊎◌, List, ◌++◌, map, length, ◌==◌, slice_index, slice_set}
 use Rattle.std.specs.List.{range_with_len}
 use Rattle.memory.specs.Keeper.{Keeper}
@@ -35,9 +35,8 @@ Spared n m h c k = copy n h c k ≡ copy n m c k
 -- at least two copies of each word are as they were
 pub record Upset (n : ℕ) (m h : List ℕ) : Type 0 where
   pub long : length h ≡ length m
-  pub two :
-      (k : ℕ) → k < n →
-      (Spared n m h 1 k × Spared n m h 2 k)
+  pub two : (k : ℕ) → k < n
+      → (Spared n m h 1 k × Spared n m h 2 k)
       ⊎ ((Spared n m h 0 k × Spared n m h 2 k) ⊎ (Spared n m h 0 k × Spared n m h 1 k))
 
 -- n words kept three times
@@ -50,9 +49,8 @@ threefold n = record {
   Upset = Upset n;
 }
 
--- upsets do happen: none at all is one, and so is any number in one copy of a word that was spared so far
+-- upsets do happen: none at all is one, and so is any number in any one copy of a word that had been spared so far
 pub record UpsetsHappen : Type 0 where
   pub none : (n : ℕ) (m : List ℕ) → Upset n m m
-  pub one :
-      (n : ℕ) (m h : List ℕ) (c k v : ℕ) → c < 3 → k < n → Upset n m h →
-      ((d : ℕ) → d < 3 → Spared n m h d k) → Upset n m (slice_set h (c * n + k) v)
+  pub one : (n : ℕ) (m h : List ℕ) (c k v : ℕ) → c < 3 → k < n → Upset n m h
+      → ((d : ℕ) → d < 3 → Spared n m h d k) → Upset n m (slice_set h (c * n + k) v)

@@ -26,11 +26,11 @@ pub record FlownThrough {W : Type 0} (took : W → List ℕ → W → Type 0) (t
 
 -- where no word is hit in two copies between two ticks, the story's reports are written, line by
 -- line, and nothing else
-abbrev pub Storied : {W : Type 0} → (W → List ℕ → W → Type 0) → List ℕ → Formatter W →
-    Formatter W → Type 0
+abbrev pub Storied : {W : Type 0} → (W → List ℕ → W → Type 0) → List ℕ → Formatter W
+    → Formatter W → Type 0
 Storied took text f g =
-    (es : List Event) → Tells flights text es → Tolerated (reverse es) → length es < most →
-    HasWritten took f (told (reverse (reports (reverse es)))) g
+    (es : List Event) → Tells flights text es → Tolerated (reverse es) → length es < most
+    → HasWritten took f (told (reverse (reports (reverse es)))) g
 
 -- the line of an output and its end, or nothing
 abbrev pub line_told : Option Output → List ℕ

@@ -69,7 +69,7 @@ and_then (Some o) os = o ∷ os
 -- from launch, after these events, the latest first, it is aloft like this and gave these outputs,
 -- the latest first
 pub data Ran : List Event → Aloft → List Output → Type 0 where
-  launched : (a : Aloft) → Flew [] a.memory → a.readings ≡ replicate 16 0 → a.frame ≡ None →
-      Ran [] a []
+  launched : (a : Aloft) → Flew [] a.memory → a.readings ≡ replicate 16 0 → a.frame ≡ None
+      → Ran [] a []
   stepped : (e : Event) (es : List Event) (a b : Aloft) (o : Option Output)
       (os : List Output) → Ran es a os → Steps a e b o → Ran (e ∷ es) b (and_then o os)

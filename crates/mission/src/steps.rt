@@ -9,6 +9,9 @@ use onboard::{MEMORY_LENGTH, launch, tick};
 use parameters::INSTRUMENTS;
 use text::Event;
 
+// Texts know nothing of the memory map, and say how many words can be hit by themselves.
+const _: () = prove!(text::WORDS == layout::WORDS as u64);
+
 impl Aloft {
     /// At launch, with nothing said of its first tick yet.
     pub fn launched() -> Aloft

@@ -54,28 +54,28 @@ Leaves None m r f t m₁ t₁ =
 Leaves (Some x) m r f t m₁ t₁ = (m₁ ≡ m) × (t₁ ≡ t)
 
 -- the answer, and what is left
-abbrev pub Says :
-    Result (Unit {0}) Refusal → (memory readings frame report memory₁ report₁ : List ℕ) → Type 0
+abbrev pub Says : Result (Unit {0}) Refusal
+    → (memory readings frame report memory₁ report₁ : List ℕ) → Type 0
 Says d m r f t m₁ t₁ =
     (answered d ≡ turned_away m r f t) × Leaves (turned_away m r f t) m r f t m₁ t₁
 
--- whatever was lent, if it is done: what is read of the memory that is left, whatever tolerated upset it
--- had since, says the ticked state
-abbrev pub KeepsState :
-    Result (Unit {0}) Refusal → (memory readings frame memory₁ : List ℕ) → Type 0
+-- whatever was lent, if it is done: what is read of the memory that is left, however it is upset
+-- since, says the ticked state
+abbrev pub KeepsState : Result (Unit {0}) Refusal → (memory readings frame memory₁ : List ℕ)
+    → Type 0
 KeepsState d m r f m₁ =
-    d ≡ Ok tt → (found : List ℕ) → keeper.Upset m₁ found →
-    state_of (keeper.read found) ≡ tick_of m r f
+    d ≡ Ok tt → (found : List ℕ) → keeper.Upset m₁ found
+    → state_of (keeper.read found) ≡ tick_of m r f
 
--- from every flight of fewer than 2^62 ticks, and every tolerated upset, that led to the lent memory: the
--- call ticks, its memory goes on with that flight, its report is the story's, and what is promised of
--- every flight holds of that flight and this tick
-abbrev pub GoesOn :
-    Result (Unit {0}) Refusal → (memory readings frame report memory₁ report₁ : List ℕ) → Type 0
+-- from every flight of fewer than 2^62 ticks, and every tolerated upset, that led to the lent
+-- memory: the call ticks, its memory goes on with that flight, its report is the story's, and what
+-- is promised of every flight holds of that flight and this tick
+abbrev pub GoesOn : Result (Unit {0}) Refusal
+    → (memory readings frame report memory₁ report₁ : List ℕ) → Type 0
 GoesOn d m r f t m₁ t₁ =
-    (is : List Inputs) (kept : List ℕ) → Flew is kept → keeper.Upset kept m → length is < most →
-    length r ≡ 16 → (length f ≡ 0) ⊎ (length f ≡ 12) → length t ≡ 8 →
-    (d ≡ Ok tt) × Flew (record { readings = r; frame = f } ∷ is) m₁
+    (is : List Inputs) (kept : List ℕ) → Flew is kept → keeper.Upset kept m → length is < most
+    → length r ≡ 16 → (length f ≡ 0) ⊎ (length f ≡ 12) → length t ≡ 8
+    → (d ≡ Ok tt) × Flew (record { readings = r; frame = f } ∷ is) m₁
     × (t₁ ≡ numbers_of (report_of (after (record { readings = r; frame = f } ∷ is))))
     × EveryFlight (record { readings = r; frame = f }) is m₁
 

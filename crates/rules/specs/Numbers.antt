@@ -6,7 +6,8 @@ abbrev pub bit : Bool → ℕ
 bit b = cond b 1 0
 
 abbrev pub rule_numbers : Rule → List ℕ
-rule_numbers r = r.watches ∷ (r.limit ∷ (bit r.upward ∷ (r.needs ∷ (bit r.safes ∷ (r.place ∷ (r.number ∷ []))))))
+rule_numbers r =
+    r.watches ∷ (r.limit ∷ (bit r.upward ∷ (r.needs ∷ (bit r.safes ∷ (r.place ∷ (r.number ∷ []))))))
 
 -- the rule that a row of numbers says, wherever they stand; a mark is set by 1 and by nothing else
 abbrev pub rule_from : (ℕ → ℕ) → Rule

@@ -5,7 +5,16 @@ use Rattle.rules.specs.declared.rule.Rule.{Rule}
 
 -- a rule that is off: it needs 0 ticks
 abbrev pub off : Rule
-off = record { watches = 0; limit = 0; upward = false; needs = 0; safes = false; place = 0; number = 0 }
+off =
+    record {
+      watches = 0;
+      limit = 0;
+      upward = false;
+      needs = 0;
+      safes = false;
+      place = 0;
+      number = 0;
+    }
 
 -- upward: at the limit and above; else at it and below
 abbrev pub is_past : Rule → ℕ → Bool

@@ -9,7 +9,7 @@ ghost use Rattle.rules.specs.Monitors.{rules_of, counts_of};
 mod rule;
 
 use parameters::may_put;
-pub use rule::{Rule, Rules, Monitor};
+pub use rule::{Monitor, Rule, Rules};
 
 /// How many rules there are.
 pub const COUNT: usize = 16;

@@ -2,7 +2,7 @@ use parameters::Parameters;
 use rules::Rules;
 use schedule::Schedule;
 
-#[derive(Clone, Copy)]
+#[derive(Drop)]
 pub struct Satellite {
     /// Ticks since launch.
     pub time: u64,

@@ -1,9 +1,10 @@
 -- Activities that wait for their time, in the order in which they came.
-use Rattle.std.specs.Prelude.{◌≡◌, ℕ, ◌<◌, Bool, true, false, cond, List, [], ◌∷◌, length, get_or, take, ◌==◌, slice_set}
+use Rattle.std.specs.Prelude.{◌≡◌, ℕ, ◌<◌, Bool, true, false, cond, List, [], ◌∷◌, length, get_or, ◌==◌, slice_set}
+use Rattle.std.specs.List.{filter}
 use Rattle.schedule.specs.declared.activity.Activity.{Activity}
 use Rattle.schedule.specs.declared.activity.Fate.{Fate}
 use Rattle.schedule.specs.declared.activity.Fate.TheVariants.{Waits, Missed, Done}
-use Rattle.schedule.specs.declared.waiting.Schedule.{Schedule}
+use Rattle.schedule.specs.declared.schedule.Schedule.{Schedule}
 
 -- the activity that stands where there is none
 abbrev pub no_activity : Activity
@@ -11,7 +12,7 @@ no_activity = record { release = 0; place = 0; number = 0 }
 
 -- the activities that wait in a schedule of the code
 abbrev pub waiting : Schedule → List Activity
-waiting s = take s.count s.activities
+waiting s = s.activities.items
 
 -- those whose time it is, and those that wait on, both in their order
 abbrev pub due : ℕ → List Activity → List Activity
@@ -20,7 +21,8 @@ due now (a ∷ xs) = cond (a.release == now) (a ∷ due now xs) (due now xs)
 
 abbrev pub still_waiting : ℕ → List Activity → List Activity
 still_waiting now [] = []
-still_waiting now (a ∷ xs) = cond (a.release == now) (still_waiting now xs) (a ∷ still_waiting now xs)
+still_waiting now (a ∷ xs) =
+    cond (a.release == now) (still_waiting now xs) (a ∷ still_waiting now xs)
 
 -- what becomes of an activity in a tick, in safe mode or not
 abbrev pub fate_of : Activity → ℕ → Bool → Fate
@@ -43,12 +45,12 @@ is_done Missed = false
 is_done Done = true
 
 abbrev pub fated : (Fate → Bool) → (Activity → Fate) → List Activity → List Activity
-fated p f [] = []
-fated p f (a ∷ xs) = cond (p (f a)) (a ∷ fated p f xs) (fated p f xs)
+fated p f xs = filter (λ a. p (f a)) xs
 
 -- all of them wait on, or it is the time of one of them
 abbrev pub AllWait : (Activity → Fate) → List Activity → Type 0
-AllWait f xs = (fated is_waiting f xs ≡ xs) × (fated is_missed f xs ≡ []) × (fated is_done f xs ≡ [])
+AllWait f xs =
+    (fated is_waiting f xs ≡ xs) × (fated is_missed f xs ≡ []) × (fated is_done f xs ≡ [])
 
 abbrev pub NothingDue : ℕ → List Activity → Type 0
 NothingDue now xs = (safe : Bool) → AllWait (λ a. fate_of a now safe) xs

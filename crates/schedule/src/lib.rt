@@ -3,9 +3,7 @@
 #![tactic(auto)]
 
 mod activity;
-mod release;
-mod waiting;
+mod schedule;
 
 pub use activity::Activity;
-pub use release::ROOM;
-pub use waiting::Schedule;
+pub use schedule::{ROOM, Schedule};

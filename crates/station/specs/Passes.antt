@@ -14,16 +14,16 @@ use Rattle.station.specs.Line.{frame_for}
 abbrev pub FromFile : List Command → List Inputs → Type 0
 FromFile cs [] = Unit {0}
 FromFile cs (i ∷ is) =
-    ((t : Telecommand) → heard i is ≡ Some t →
-    (t.number < length cs) × (t ≡ telecommand_of cs t.number)) × FromFile cs is
+    ((t : Telecommand) → heard i is ≡ Some t
+    → (t.number < length cs) × (t ≡ telecommand_of cs t.number)) × FromFile cs is
 
 -- if the report of such a flight says that it expects n, then exactly the first n commands of the
 -- file have been obeyed, in their order
 abbrev pub SurelyObeyed : Type 0
 SurelyObeyed =
-    (cs : List Command) (is : List Inputs) (n : ℕ) → FromFile cs is →
-    (report_of (after is)).expected ≡ n →
-    (n ≤ length cs) × (reverse (obeyed_in is) ≡ take n cs)
+    (cs : List Command) (is : List Inputs) (n : ℕ) → FromFile cs is
+    → (report_of (after is)).expected ≡ n
+    → (n ≤ length cs) × (reverse (obeyed_in is) ≡ take n cs)
 
 -- the frame that the ground names for the latest report comes up in a tick
 abbrev pub Names : List Command → Inputs → List Inputs → Type 0
@@ -32,8 +32,8 @@ Names cs i is = frame_for cs (report_of (after is)).expected ≡ Some i.frame
 -- then that command is obeyed in that tick
 abbrev pub ComesThrough : Type 0
 ComesThrough =
-    (cs : List Command) (i : Inputs) (is : List Inputs) → Sendable cs → Names cs i is →
-    (obeyed_in (i ∷ is) ≡ (telecommand_of cs (after is).expected).command ∷ obeyed_in is) ×
+    (cs : List Command) (i : Inputs) (is : List Inputs) → Sendable cs → Names cs i is
+    → (obeyed_in (i ∷ is) ≡ (telecommand_of cs (after is).expected).command ∷ obeyed_in is) ×
     ((after (i ∷ is)).expected ≡ suc (after is).expected)
 
 -- in some tick of a stretch the frame that the ground then names comes up
@@ -45,11 +45,11 @@ pub data Brings (cs : List Command) : (stretch early : List Inputs) → Type 0 w
 -- comes up
 abbrev pub Delivers : ℕ → List Command → List Inputs → Type 0
 Delivers d cs is =
-    (late stretch early : List Inputs) → is ≡ late ++ (stretch ++ early) → length stretch ≡ d →
-    (after early).expected < length cs → Brings cs stretch early
+    (late stretch early : List Inputs) → is ≡ late ++ (stretch ++ early) → length stretch ≡ d
+    → (after early).expected < length cs → Brings cs stretch early
 
 -- over such a line every command of a file of n is obeyed in at most d * n ticks
 abbrev pub AllObeyed : Type 0
 AllObeyed =
-    (d : ℕ) (cs : List Command) (is : List Inputs) → Sendable cs → FromFile cs is →
-    Delivers d cs is → length is ≡ d * length cs → reverse (obeyed_in is) ≡ cs
+    (d : ℕ) (cs : List Command) (is : List Inputs) → Sendable cs → FromFile cs is
+    → Delivers d cs is → length is ≡ d * length cs → reverse (obeyed_in is) ≡ cs

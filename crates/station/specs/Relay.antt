@@ -35,8 +35,8 @@ some_up (up ∷ line) = up || some_up line
 -- it is up in one at least of any d ticks
 abbrev pub UpIn : ℕ → List Bool → Type 0
 UpIn d line =
-    (late stretch early : List Bool) → line ≡ late ++ (stretch ++ early) → length stretch ≡ d →
-    some_up stretch ≡ true
+    (late stretch early : List Bool) → line ≡ late ++ (stretch ++ early) → length stretch ≡ d
+    → some_up stretch ≡ true
 
 -- what a tick can be given; nothing but commands of the file; and delivered
 pub record Delivered (d : ℕ) (cs : List Command) (is : List Inputs) : Type 0 where
@@ -47,12 +47,12 @@ pub record Delivered (d : ℕ) (cs : List Command) (is : List Inputs) : Type 0 w
 -- such is the flight over each such line
 abbrev pub DeliveredOver : Type 0
 DeliveredOver =
-    (d : ℕ) (cs : List Command) (line : List Bool) → Sendable cs → UpIn d line →
-    Delivered d cs (sent_over cs line)
+    (d : ℕ) (cs : List Command) (line : List Bool) → Sendable cs → UpIn d line
+    → Delivered d cs (sent_over cs line)
 
 -- so each file whose commands can be sent has a flight that is, and that obeys it all
 abbrev pub CanDeliver : Type 0
 CanDeliver =
-    (d : ℕ) (cs : List Command) → 1 ≤ d → Sendable cs →
-    (is : List Inputs) × Delivered d cs is × (length is ≡ d * length cs) ×
+    (d : ℕ) (cs : List Command) → 1 ≤ d → Sendable cs
+    → (is : List Inputs) × Delivered d cs is × (length is ≡ d * length cs) ×
     (reverse (obeyed_in is) ≡ cs)

@@ -17,7 +17,11 @@ report_of s = record {
 
 -- in safe mode the third number is 1, else 0
 abbrev pub numbers_of : Report → List ℕ
-numbers_of r = r.time ∷ (r.expected ∷ (cond r.safe_mode 1 0 ∷ (r.rejected ∷ (r.missed ∷ (r.waiting ∷ (r.first ∷ (r.second ∷ [])))))))
+numbers_of r =
+    r.time
+    ∷ (r.expected
+    ∷ (cond r.safe_mode 1 0
+    ∷ (r.rejected ∷ (r.missed ∷ (r.waiting ∷ (r.first ∷ (r.second ∷ [])))))))
 
 -- what eight numbers report: nothing if they are not eight, or if the mark is neither 0 nor 1
 abbrev pub reported : List ℕ → Option Report

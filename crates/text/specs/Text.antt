@@ -74,8 +74,8 @@ pub record Readable {E : Type 0} (l : Language E) : Type 0 where
   pub back : List Word → E
   pub undo : (e : E) → back (l.words e) ≡ e
   pub some : (e : E) → l.words e ≡ [] → ⊥
-  pub writable : (heard : Bool) (e : E) → l.may heard e ≡ true →
-      AllByRecursion Writable (l.words e)
+  pub writable : (heard : Bool) (e : E) → l.may heard e ≡ true
+      → AllByRecursion Writable (l.words e)
 
 module _ {E : Type 0} (l : Language E) where
   -- nothing that may be said now has these words, and this is what they should have been

@@ -1,19 +1,18 @@
-ghost use Rattle.std.specs.Prelude.{◌≡◌, ◌<◌, ◌≤◌, true, false, cond, [], ◌∷◌, ◌++◌, length, nat_le};
+ghost use Rattle.std.specs.Prelude.{◌≡◌, ◌<◌, ◌≤◌, true, false, [], ◌∷◌, ◌++◌, length, nat_le};
 ghost use Rattle.schedule.specs.Waiting.{waiting, fated, is_waiting, is_missed, is_done, put_all, fate_of, NothingDue, SomeDue, Placed};
 
 use crate::activity::{Activity, Fate};
-use crate::waiting::Schedule;
+use arrayvec::ArrayVec;
 use parameters::Parameters;
 
 /// How many activities can wait.
 pub const ROOM: usize = 32;
 
-// Stands where no activity waits.
-const NO_ACTIVITY: Activity = Activity {
-    release: 0,
-    place: 0,
-    number: 0,
-};
+/// Up to 32 activities, in the order in which they came, in the satellite itself: nothing on board allocates.
+#[derive(Drop)]
+pub struct Schedule {
+    activities: ArrayVec<Activity, ROOM>,
+}
 
 impl Schedule {
     /// Nothing waits.
@@ -21,30 +20,30 @@ impl Schedule {
         ensures { waiting result ≡ [] }
     {
         Schedule {
-            activities: [NO_ACTIVITY; ROOM],
-            count: 0,
+            activities: ArrayVec::new(),
         }
     }
 
     /// Those that wait.
     pub fn waiting(&self) -> &[Activity]
-        ensures { result.now ≡ waiting self.now }
+        ensures all { result.now ≡ waiting self.now }
+        ensures few { length result.now ≤ 32 }
     {
-        &self.activities[..self.count]
+        self.activities.as_slice()
     }
 
     /// How many wait.
     pub fn len(&self) -> usize
         ensures { result ≡ length (waiting self.now) }
     {
-        self.count
+        self.activities.len()
     }
 
     /// Whether no more activity can wait.
     pub fn is_full(&self) -> bool
         ensures { result ≡ nat_le 32 (length (waiting self.now)) }
     {
-        self.len() >= ROOM
+        self.activities.is_full()
     }
 
     /// Whether it is the time of an activity.
@@ -61,7 +60,7 @@ impl Schedule {
     pub fn clear(&mut self)
         ensures { waiting self.new ≡ [] }
     {
-        self.count = 0;
+        self.activities.clear();
     }
 
     /// One more activity waits, behind the others.
@@ -69,8 +68,7 @@ impl Schedule {
         requires { length (waiting self.old) < 32 }
         ensures { waiting self.new ≡ waiting self.old ++ (activity ∷ []) }
     {
-        self.activities[self.count] = activity;
-        self.count += 1;
+        self.activities.push(activity);
     }
 
     /// The due activities put their numbers, one after the other, or are missed in safe mode; either way they are gone.
@@ -78,38 +76,29 @@ impl Schedule {
     #[inline(never)]
     pub fn release(&mut self, time: u64, safe_mode: bool, parameters: &mut Parameters) -> u64
         requires { Placed (waiting self.old) }
-        ensures waiting { waiting self.new ≡ fated is_waiting (λ a. fate_of a time safe_mode) (waiting self.old) }
-        ensures put { parameters.new.values ≡ put_all (fated is_done (λ a. fate_of a time safe_mode) (waiting self.old)) parameters.old.values }
-        ensures missed { result ≡ length (fated is_missed (λ a. fate_of a time safe_mode) (waiting self.old)) }
+        ensures waiting { waiting self.new
+            ≡ fated is_waiting (λ a. fate_of a time safe_mode) (waiting self.old) }
+        ensures put { parameters.new.values
+            ≡ put_all (fated is_done (λ a. fate_of a time safe_mode) (waiting self.old))
+            parameters.old.values }
+        ensures missed { result
+            ≡ length (fated is_missed (λ a. fate_of a time safe_mode) (waiting self.old)) }
         ensures few { result ≤ 32 }
     {
         // Mostly nothing is due, which is found out sooner than it is done.
         if !self.is_due(time) {
             return 0;
         }
-        let before = *self;
-        self.clear();
         let mut missed = 0;
-        for activity in before.waiting() {
-            match fate(*activity, time, safe_mode) {
-                Fate::Waits => self.add(*activity),
+        for activity in self.waiting() {
+            match activity.fate(time, safe_mode) {
+                Fate::Waits => {}
                 Fate::Missed => missed += 1,
                 Fate::Done => parameters.put(activity.place, activity.number),
             }
         }
+        self.activities
+            .retain(|activity| activity.fate(time, safe_mode).waits());
         missed
-    }
-}
-
-// What becomes of an activity in a tick: it waits on unless its time is now, and in safe mode it is then missed.
-fn fate(activity: Activity, time: u64, safe_mode: bool) -> Fate
-    ensures { result ≡ fate_of activity time safe_mode }
-{
-    if activity.release != time {
-        Fate::Waits
-    } else if safe_mode {
-        Fate::Missed
-    } else {
-        Fate::Done
     }
 }

@@ -5,7 +5,7 @@ use Rattle.std.specs.List.{list_any}
 use Rattle.schedule.specs.declared.activity.Activity.{Activity}
 use Rattle.schedule.specs.Waiting.{waiting}
 use Rattle.schedule.proofs.Releasing.{none_due}
-use Rattle.schedule.proofs.waiting.Schedule.is_due.Goals as goal
+use Rattle.schedule.proofs.schedule.Schedule.is_due.Goals as goal
 
 pub returns-clause-none : goal.returns-clause-none
 returns-clause-none c =

@@ -1,7 +1,0 @@
-use Rattle.std.proofs.Common.{take}
-use Rattle.schedule.specs.Waiting.{waiting, fate_of}
-use Rattle.schedule.proofs.Releasing.{Sofar}
-use Rattle.schedule.proofs.waiting.Schedule.release.Given as goal
-
-abbrev pub invariant-loop-activity : goal.invariant-loop-activity
-invariant-loop-activity l = Sofar (λ a. fate_of a l.time l.safe_mode) l.initial.parameters.values (take l.activity-index (waiting l.fn.self)) (waiting l.self) l.missed l.parameters.values
