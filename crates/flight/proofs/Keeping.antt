@@ -1,14 +1,13 @@
 -- What a tick leaves of any words without fault is read as the state that it made.
-use Rattle.std.proofs.Common.{◌≡◌, ℕ, zero, suc, ◌<◌, ◌≤◌, List, [], ◌∷◌, length, get_or, drop, sym, refl, ap, ◌∙◌, subst, inl, inr, ⊎_elim, arith, length-drop}
+use Rattle.std.proofs.Common.{◌≡◌, ℕ, suc, ◌<◌, ◌≤◌, List, length, get_or, drop, sym, refl, ap, ◌∙◌, subst, inl, inr, ⊎_elim, arith, length-drop}
 use Rattle.std.proofs.lemmas.Bool.{cases_lt}
 use Rattle.std.proofs.lemmas.List.{get_or_past, length-take-le}
 use Rattle.std.proofs.lemmas.List.FromFn.{length-map-range_with_len}
 use Rattle.schedule.specs.declared.activity.Activity.{Activity}
 use Rattle.schedule.specs.Waiting.{no_activity}
-use Rattle.rules.specs.declared.rule.Rule.{Rule}
 use Rattle.rules.specs.Watching.{off}
 use Rattle.satellite.specs.Story.{Inputs, ticked}
-use Rattle.layout.specs.Map.{word_count, words_of, rule_at, rules_in, state_of, parameters_at, waiting_at, counts_at}
+use Rattle.layout.specs.Map.{word_count, words_of, rule_at, rules_in, state_of, parameters_at, counts_at}
 use Rattle.layout.specs.Fault.{Faultless, Sane}
 use Rattle.layout.proofs.Places.{length_words}
 use Rattle.layout.proofs.Back.{state_back}

@@ -7,7 +7,7 @@ use Rattle.rules.specs.declared.rule.Rule.{Rule}
 use Rattle.parameters.specs.Places.{may_put}
 use Rattle.satellite.specs.State.{State, parameter, rule, count}
 use Rattle.satellite.specs.Fit.{most}
-use Rattle.layout.specs.Map.{bit, words_of, activity_at, rule_at, state_of, Sized, Tidy, Tells, activity_size, rule_size, time_at, safe_mode_at, parameters_at, waiting_at, activities_at, activities_room, rules_at, counts_at, word_count}
+use Rattle.layout.specs.Map.{bit, words_of, activity_at, rule_at, state_of, Sized, Tidy, Tells, activity_size, rule_size, time_at, safe_mode_at, parameters_at, waiting_at, activities_at, rules_at, counts_at, word_count}
 use Rattle.layout.specs.Fault.{Sane, TidyRight}
 use Rattle.layout.proofs.Places.{waiting_word, rule_word, nought_word}
 use Rattle.layout.proofs.Back.{state_back}
