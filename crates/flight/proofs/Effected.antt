@@ -67,21 +67,23 @@ can_set k r l w o =
     (⊎_elim (or_left r.safes (may_put r.place)) (λ p. or_right r.safes (may_put r.place) (place_may r.place p)) o))
 
 pub commands_act : CommandsAct
-commands_act = record {
-  put = λ i is a b e p. its_turn i is (Command.Put a b) e (place_may a p);
-  later = λ i is a e p l n. its_turn i is (Command.Later a) e (and_from (may_put a.place) (ltb (at_reception i (after is)).time a.release && ltb (length (at_reception i (after is)).schedule) 32) (place_may a.place p)
-      (and_from (ltb (at_reception i (after is)).time a.release) (ltb (length (at_reception i (after is)).schedule) 32) (lt-ltb (at_reception i (after is)).time a.release l) (lt-ltb (length (at_reception i (after is)).schedule) 32 n)));
-  forget = λ i is e. its_turn i is Command.Forget e refl;
-  sleep = λ i is e. its_turn i is Command.Sleep e refl;
-  wake = λ i is e. its_turn i is Command.Wake e refl;
-  set_rule = λ i is k r e l w o. its_turn i is (Command.SetRule k r) e (can_set k r l w o);
-}
+commands_act i is =
+    let s = at_reception i (after is) in
+    record {
+      put = λ a b e p. its_turn i is (Command.Put a b) e (place_may a p);
+      later = λ a e p l n. its_turn i is (Command.Later a) e (and_from (may_put a.place) (ltb s.time a.release && ltb (length s.schedule) 32) (place_may a.place p)
+          (and_from (ltb s.time a.release) (ltb (length s.schedule) 32) (lt-ltb s.time a.release l) (lt-ltb (length s.schedule) 32 n)));
+      forget = λ e. its_turn i is Command.Forget e refl;
+      sleep = λ e. its_turn i is Command.Sleep e refl;
+      wake = λ e. its_turn i is Command.Wake e refl;
+      set_rule = λ k r e l w o. its_turn i is (Command.SetRule k r) e (can_set k r l w o);
+    }
 
 pub else_ignored : ElseIgnored
-else_ignored = record {
-  nothing_came = λ i is e. ticked_heard i (after is) None e;
-  not_its_turn = λ i is t e f. ticked_heard i (after is) (Some t) e ∙ obeyed_else t (at_reception i (after is)) (λ d. f (d ∙ expected_kept i (after is)));
-  undoable = λ i is c e u. not_done i is c e (undoable_cannot (at_reception i (after is)) c u);
+else_ignored i is = record {
+  nothing_came = λ e. ticked_heard i (after is) None e;
+  not_its_turn = λ t e f. ticked_heard i (after is) (Some t) e ∙ obeyed_else t (at_reception i (after is)) (λ d. f (d ∙ expected_kept i (after is)));
+  undoable = λ c e u. not_done i is c e (undoable_cannot (at_reception i (after is)) c u);
 }
 
 -- no rule, activity or command puts where instruments are read

@@ -9,7 +9,7 @@ use Rattle.flight.specs.Protecting.{InSafeMode}
 use Rattle.flight.specs.EveryFlight.{FlewLawfully, EveryFlight}
 use Rattle.flight.proofs.Flying.{all_lawful, flies_right}
 use Rattle.flight.proofs.Commanded.{each_once, comes_through, safe_at_once}
-use Rattle.flight.proofs.Effected.{its_turn, after_time}
+use Rattle.flight.proofs.Effected.{commands_act, else_ignored, after_time}
 use Rattle.flight.proofs.Scheduled.{never_late, put_when_due, missed_in_safe_mode, missed_right}
 use Rattle.flight.proofs.Protected.{safe_by_rules}
 use Rattle.flight.proofs.SafeMode.{safe_lasts}
@@ -44,7 +44,8 @@ every_flight i is left flew =
       memory = λ found upset. flies_right.reads (i ∷ is) left found flew upset;
       each_once = λ sent g. each_once sent (i ∷ is) g;
       comes_through = comes_through i is;
-      takes_effect = its_turn i is;
+      commands_act = commands_act i is;
+      else_ignored = else_ignored i is;
       safe_at_once = safe_at_once i is;
       safe_lasts = λ e f. safe_lasts.stays i is f (safe_then i is l e);
       waits = each_activity.stays i is;

@@ -9,7 +9,8 @@ use Rattle.rules.specs.declared.rule.Rule.{Rule}
 use Rattle.parameters.specs.Places.{may_put}
 use Rattle.satellite.specs.State.{State, rule}
 use Rattle.satellite.specs.Fit.{most}
-use Rattle.layout.specs.Map.{bit, activity_words, rule_words, words_of, Sized, activity_size, rule_size, waiting_at, activities_at, rules_at, head_words, parts}
+use Rattle.rules.specs.Numbers.{bit}
+use Rattle.layout.specs.Map.{activity_words, rule_words, words_of, Sized, activity_size, rule_size, waiting_at, activities_at, rules_at, head_words, parts}
 use Rattle.layout.specs.Fault.{Faultless, Sane}
 use Rattle.layout.proofs.Places.{head_word, waiting_word, activity_word, rule_word}
 use Rattle.layout.proofs.Sanity.{faultless_of}
@@ -125,4 +126,4 @@ never_refused is kept found flown upset short =
     let left = flies_right.holds is kept flown in
     let sized = after_sized is lawful in
     let written = faultless_of (words_of (after is)) (sane (length is) (after is) short sized (after_sound is lawful) (after_bounded is lawful)) in
-    subst Faultless (sym (keeps.mends kept found left.words left.holds upset)) (tidy_right.faultless left.words (after is) sized left.tells written)
+    subst Faultless (sym (keeps.mends kept found left.words left.holds upset)) (tidy_right.faultless left.words (after is) sized left.left_for written)

@@ -2,7 +2,7 @@
 use Rattle.std.proofs.Common.{◌≡◌, ℕ, List, [], ◌∷◌, sym, ap, ◌∙◌, subst}
 use Rattle.memory.specs.Keeper.{Keeper, Mends, Keeps}
 use Rattle.memory.proofs.Mending.{keeps_words}
-use Rattle.layout.specs.Map.{word_count, words_of, state_of, Tells}
+use Rattle.layout.specs.Map.{word_count, words_of, state_of, LeftFor}
 use Rattle.layout.proofs.Places.{length_words}
 use Rattle.layout.proofs.Tidiness.{tidy_right}
 use Rattle.satellite.specs.State.{at_launch}
@@ -13,21 +13,21 @@ use Rattle.flight.specs.Flight.{keeper, machine, after, Flew, FliesRight, Carrie
 use Rattle.flight.proofs.Sound.{after_sized}
 
 pub all_lawful : (K : Keeper) (M : Machine) (is : List M.Input) (kept : List ℕ) → Flown K M is kept → AllLawful M is
-all_lawful K M is kept (launched words left tells holds) = none
-all_lawful K M is kept (ticked i js m found words left flown upset lawful tells holds) = more i js lawful (all_lawful K M js m flown)
+all_lawful K M is kept (launched words left left_for holds) = none
+all_lawful K M is kept (ticked i js m found words left flown upset lawful left_for holds) = more i js lawful (all_lawful K M js m flown)
 
 left_story : (K : Keeper) (M : Machine) → Mends K → Returns M → (is : List M.Input) (kept : List ℕ) → Flown K M is kept → Left K M kept (story M is)
-left_story K M mends returns is kept (launched words left tells holds) = record { words = words; tells = tells; holds = holds }
-left_story K M mends returns is kept (ticked i js m found words left flown upset lawful tells holds) =
+left_story K M mends returns is kept (launched words left left_for holds) = record { words = words; left_for = left_for; holds = holds }
+left_story K M mends returns is kept (ticked i js m found words left flown upset lawful left_for holds) =
     let before = left_story K M mends returns js m flown in
-    let state : M.state (K.read found) ≡ story M js = ap M.state (mends m found before.words before.holds upset) ∙ returns before.words (story M js) before.tells in
-    record { words = words; tells = subst (λ s. M.Tells words (M.step i s)) state tells; holds = holds }
+    let state : M.state (K.read found) ≡ story M js = ap M.state (mends m found before.words before.holds upset) ∙ returns before.words (story M js) before.left_for in
+    record { words = words; left_for = subst (λ s. M.LeftFor words (M.step i s)) state left_for; holds = holds }
 
 pub always_flies : AlwaysFlies
 always_flies K M mends returns = record {
   reads = λ is kept found flown upset.
       let left = left_story K M mends returns is kept flown in
-      ap M.state (mends kept found left.words left.holds upset) ∙ returns left.words (story M is) left.tells;
+      ap M.state (mends kept found left.words left.holds upset) ∙ returns left.words (story M is) left.left_for;
   holds = left_story K M mends returns;
 }
 
@@ -36,19 +36,19 @@ pub keeps : Keeps word_count keeper
 keeps = keeps_words word_count
 
 pub flies_right : FliesRight
-flies_right = always_flies keeper machine keeps.mends (λ words s tells. tells.says)
+flies_right = always_flies keeper machine keeps.mends (λ words s left_for. left_for.says)
 
 -- what is stored for a state that has its room in memory
 pub stored : (is : List Inputs) → AllLawful machine is → Left keeper machine (keeper.stored (words_of (after is))) (after is)
 stored is lawful =
     let sized = after_sized is lawful in
-    record { words = words_of (after is); tells = tidy_right.written (after is) sized; holds = keeps.stores (words_of (after is)) (length_words (after is) sized) }
+    record { words = words_of (after is); left_for = tidy_right.written (after is) sized; holds = keeps.stores (words_of (after is)) (length_words (after is) sized) }
 
 pub launch_flies : Flew [] (keeper.stored (words_of at_launch))
-launch_flies = let s = stored [] none in launched s.words (keeper.stored (words_of at_launch)) s.tells s.holds
+launch_flies = let s = stored [] none in launched s.words (keeper.stored (words_of at_launch)) s.left_for s.holds
 
 pub carries_on : CarriesOn
 carries_on i is kept found flown upset lawful =
     let t : satellite.ticked i (state_of (keeper.read found)) ≡ after (i ∷ is) = ap (satellite.ticked i) (flies_right.reads is kept found flown upset) in
     let s = stored (i ∷ is) (more i is lawful (all_lawful keeper machine is kept flown)) in
-    (t, ticked i is kept found s.words (keeper.stored (words_of (after (i ∷ is)))) flown upset lawful (subst (Tells s.words) (sym t) s.tells) s.holds)
+    (t, ticked i is kept found s.words (keeper.stored (words_of (after (i ∷ is)))) flown upset lawful (subst (LeftFor s.words) (sym t) s.left_for) s.holds)

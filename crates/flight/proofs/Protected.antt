@@ -104,7 +104,7 @@ instruments_right k r (i ∷ late) early (more j js x l) lt w e z n =
 
 pub begins_anew : BeginsAnew
 begins_anew i is k r (more j js l ls) e lt w o =
-    let d = commands_act.set_rule i is k r e lt w o in
+    let d = (commands_act i is).set_rule k r e lt w o in
     let h = reception_sound i (after is) l (after_sound is ls) in
     let a = h.3 in
     let b = h.4 in

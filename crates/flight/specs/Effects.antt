@@ -20,29 +20,32 @@ next_expected i is = with_expected (suc (after is).expected) (at_reception i (af
 abbrev pub PutPlace : ℕ → Type 0
 PutPlace a = (16 ≤ a) × (a ≤ 63)
 
--- each command has its effect, and only that
-pub record CommandsAct : Type 0 where
-  pub put : (i : Inputs) (is : List Inputs) (a b : ℕ) → Turn i is (Command.Put a b) → PutPlace a
+-- a command that has its turn in a tick, and can be done, has its effect, and only that
+pub record CommandActs (i : Inputs) (is : List Inputs) : Type 0 where
+  pub put : (a b : ℕ) → Turn i is (Command.Put a b) → PutPlace a
       → after (i ∷ is)
       ≡ with_parameters (slice_set (at_reception i (after is)).parameters a b)
       (next_expected i is)
-  pub later : (i : Inputs) (is : List Inputs) (a : Activity) → Turn i is (Command.Later a)
+  pub later : (a : Activity) → Turn i is (Command.Later a)
       → PutPlace a.place → (at_reception i (after is)).time < a.release
       → length (at_reception i (after is)).schedule < 32
       → after (i ∷ is)
       ≡ with_schedule ((at_reception i (after is)).schedule ++ (a ∷ [])) (next_expected i is)
-  pub forget : (i : Inputs) (is : List Inputs) → Turn i is Command.Forget
+  pub forget : Turn i is Command.Forget
       → after (i ∷ is) ≡ with_schedule [] (next_expected i is)
-  pub sleep : (i : Inputs) (is : List Inputs) → Turn i is Command.Sleep
+  pub sleep : Turn i is Command.Sleep
       → after (i ∷ is) ≡ with_safe_mode true (next_expected i is)
-  pub wake : (i : Inputs) (is : List Inputs) → Turn i is Command.Wake
+  pub wake : Turn i is Command.Wake
       → after (i ∷ is) ≡ with_safe_mode false (next_expected i is)
-  pub set_rule : (i : Inputs) (is : List Inputs) (k : ℕ) (r : Rule)
+  pub set_rule : (k : ℕ) (r : Rule)
       → Turn i is (Command.SetRule k r) → k < 16 → r.watches ≤ 63
       → (r.safes ≡ true) ⊎ PutPlace r.place
       → after (i ∷ is)
       ≡ with_rules (slice_set (at_reception i (after is)).rules k r)
       (with_counts (slice_set (at_reception i (after is)).counts k 0) (next_expected i is))
+
+abbrev pub CommandsAct : Type 0
+CommandsAct = (i : Inputs) (is : List Inputs) → CommandActs i is
 
 -- what cannot be done in a state
 pub data Undoable (s : State) : Command → Type 0 where
@@ -60,15 +63,18 @@ pub data Undoable (s : State) : Command → Type 0 where
 
 -- what is not its turn, or is not whole, is as if it had not come; what cannot be done changes the
 -- two counters and nothing else
-pub record ElseIgnored : Type 0 where
-  pub nothing_came : (i : Inputs) (is : List Inputs) → heard i is ≡ None
+pub record IgnoresElse (i : Inputs) (is : List Inputs) : Type 0 where
+  pub nothing_came : heard i is ≡ None
       → after (i ∷ is) ≡ at_reception i (after is)
-  pub not_its_turn : (i : Inputs) (is : List Inputs) (t : Telecommand) → heard i is ≡ Some t
+  pub not_its_turn : (t : Telecommand) → heard i is ≡ Some t
       → (t.number ≢ (after is).expected) → after (i ∷ is) ≡ at_reception i (after is)
-  pub undoable : (i : Inputs) (is : List Inputs) (c : Command) → Turn i is c
+  pub undoable : (c : Command) → Turn i is c
       → Undoable (at_reception i (after is)) c
       → after (i ∷ is)
       ≡ with_rejected (suc (at_reception i (after is)).rejected) (next_expected i is)
+
+abbrev pub ElseIgnored : Type 0
+ElseIgnored = (i : Inputs) (is : List Inputs) → IgnoresElse i is
 
 -- until its command a tick leaves the expected number, the rejected ones and the rules as they
 -- were, and time goes on by one

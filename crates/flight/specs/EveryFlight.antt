@@ -3,12 +3,13 @@ use Rattle.std.specs.Prelude.{◌≡◌, ℕ, suc, ◌+◌, ◌<◌, true, ◌�
 use Rattle.schedule.specs.declared.activity.Activity.{Activity}
 use Rattle.schedule.specs.Waiting.{due}
 use Rattle.frame.specs.declared.Command.{Command}
-use Rattle.satellite.specs.State.{with_expected, parameter}
-use Rattle.satellite.specs.Story.{Inputs, can, done, at_release, at_reception}
+use Rattle.satellite.specs.State.{parameter}
+use Rattle.satellite.specs.Story.{Inputs, at_release, at_reception}
 use Rattle.layout.specs.Map.{state_of}
 use Rattle.flight.specs.Machine.{AllLawful}
 use Rattle.flight.specs.Flight.{keeper, machine, after, Flew}
 use Rattle.flight.specs.Commanding.{Turn, FromGround, obeyed_in, first_sent}
+use Rattle.flight.specs.Effects.{CommandActs, IgnoresElse}
 use Rattle.flight.specs.Scheduling.{Among, LastForPlace}
 use Rattle.flight.specs.Protecting.{InSafeMode}
 
@@ -28,10 +29,10 @@ pub record EveryFlight (i : Inputs) (is : List Inputs) (left : List ℕ) : Type 
   pub comes_through : (c : Command) → Turn i is c
       → (obeyed_in (i ∷ is) ≡ c ∷ obeyed_in is)
       × ((after (i ∷ is)).expected ≡ suc (after is).expected)
-  -- and takes effect, if it can be done
-  pub takes_effect : (c : Command) → Turn i is c → can (at_reception i (after is)) c ≡ true
-      → after (i ∷ is) ≡
-      with_expected (suc (after is).expected) (done (at_reception i (after is)) c)
+  -- it has its effect, and only that, if it can be done
+  pub commands_act : CommandActs i is
+  -- what cannot be done changes two counters, and what is not its turn changes nothing
+  pub else_ignored : IgnoresElse i is
   -- safe mode is had in the tick in which it is commanded
   pub safe_at_once : Turn i is Command.Sleep → (after (i ∷ is)).safe_mode ≡ true
   -- had before or by a rule, it lasts until `Wake` has its turn

@@ -6,7 +6,7 @@ use Rattle.satellite.specs.State.{State, at_launch}
 use Rattle.satellite.specs.Story.{Inputs, at_reception}
 use Rattle.satellite.specs.Story as satellite
 use Rattle.satellite.specs.Fit.{most}
-use Rattle.layout.specs.Map.{word_count, words_of, state_of, Tells}
+use Rattle.layout.specs.Map.{word_count, words_of, state_of, LeftFor}
 use Rattle.layout.specs.Fault.{Faultless}
 use Rattle.flight.specs.Machine.{Machine, story, Flown, Flies}
 
@@ -27,7 +27,7 @@ machine = record {
   Lawful = Lawful;
   first = at_launch;
   step = satellite.ticked;
-  Tells = Tells;
+  LeftFor = LeftFor;
   state = state_of;
 }
 

@@ -11,7 +11,7 @@ pub record Machine : Type 1 where
   pub first : State
   pub step : Input → State → State
   -- words that a program may leave for a state, and the state that words say
-  pub Tells : List ℕ → State → Type 0
+  pub LeftFor : List ℕ → State → Type 0
   pub state : List ℕ → State
 
 -- the story: its state after a history of inputs, the latest first, as if there were no radiation
@@ -25,20 +25,20 @@ pub data AllLawful (M : Machine) : List M.Input → Type 0 where
 
 -- what may be left for a state is read as that state
 abbrev pub Returns : Machine → Type 0
-Returns M = (words : List ℕ) (s : M.State) → M.Tells words s → M.state words ≡ s
+Returns M = (words : List ℕ) (s : M.State) → M.LeftFor words s → M.state words ≡ s
 
 -- a flight, of any program: at launch memory holds words for the first state; then, between two
 -- ticks, it is upset, and each tick leaves words for what it makes of what it reads
 pub data Flown (K : Keeper) (M : Machine) : List M.Input → List ℕ → Type 0 where
-  launched : (words left : List ℕ) → M.Tells words M.first → K.Holds left words → Flown K M [] left
+  launched : (words left : List ℕ) → M.LeftFor words M.first → K.Holds left words → Flown K M [] left
   ticked : (i : M.Input) (is : List M.Input) (kept found words left : List ℕ) → Flown K M is kept
-      → K.Upset kept found → M.Lawful i → M.Tells words (M.step i (M.state (K.read found)))
+      → K.Upset kept found → M.Lawful i → M.LeftFor words (M.step i (M.state (K.read found)))
       → K.Holds left words → Flown K M (i ∷ is) left
 
 -- memory holds words for a state
 pub record Left (K : Keeper) (M : Machine) (left : List ℕ) (s : M.State) : Type 0 where
   pub words : List ℕ
-  pub tells : M.Tells words s
+  pub left_for : M.LeftFor words s
   pub holds : K.Holds left words
 
 -- whatever the inputs and the upsets: what is read is the story's, and so is what was left

@@ -4,7 +4,8 @@ use Rattle.std.proofs.lemmas.Bool.Decides.{nat_tests}
 use Rattle.std.proofs.lemmas.Bool.{eq-eqb, le-leb, leb-true, and_parts, and_from, and_left, and_right, cond-true, cond-false}
 use Rattle.frame.specs.declared.Command.{Command}
 use Rattle.frame.specs.declared.Telecommand.{Telecommand}
-use Rattle.frame.specs.Frame.{all_small, weighed, check_of, is_whole, command_of, decoded, kinds, is_kind, bit, body, encoded, encodable, encoding}
+use Rattle.rules.specs.Numbers.{bit}
+use Rattle.frame.specs.Frame.{all_small, weighed, check_of, is_whole, command_of, decoded, kinds, is_kind, body, encoded, encodable, encoding}
 
 check_small : (f : List ℕ) → check_of f ≤ 4294967295
 unfolding check_of

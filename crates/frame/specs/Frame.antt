@@ -2,8 +2,8 @@
 -- and the frame of a command.
 use Rattle.std.specs.Prelude.{ℕ, zero, suc, ◌+◌, ◌*◌, ◌%◌, Bool, true, cond, ◌&&◌, List, [], ◌∷◌, ◌++◌, length, Some, None, Option, ◌==◌, nat_le, slice_index, slice_set}
 use Rattle.std.specs.List.{list_all}
-use Rattle.rules.specs.Numbers.{rule_from}
-use Rattle.schedule.specs.Numbers.{activity_from}
+use Rattle.rules.specs.Numbers.{rule_numbers, rule_from}
+use Rattle.schedule.specs.Numbers.{activity_numbers, activity_from}
 use Rattle.frame.specs.declared.Command.{Command}
 use Rattle.frame.specs.declared.Telecommand.{Telecommand}
 
@@ -58,28 +58,23 @@ abbrev pub is_kind : Command → Bool
 is_kind (Command.Unknown k) = nat_le kinds k
 is_kind _ = true
 
-abbrev pub bit : Bool → ℕ
-bit b = cond b 1 0
-
 -- what a frame says of a command besides its kind
 abbrev pub arguments_of : Command → List ℕ
 arguments_of (Command.Put a b) = a ∷ (b ∷ [])
-arguments_of (Command.Later a) = a.release ∷ (a.place ∷ (a.number ∷ []))
-arguments_of (Command.SetRule k r) =
-    k ∷ (r.watches ∷ (r.limit ∷ (bit r.upward ∷ (r.needs ∷ (bit r.safes ∷ (r.place ∷
-    (r.number ∷ [])))))))
+arguments_of (Command.Later a) = activity_numbers a
+arguments_of (Command.SetRule k r) = k ∷ rule_numbers r
 arguments_of _ = []
 
 -- nine numbers, with noughts behind those that there are
-abbrev pub filled : List ℕ → List ℕ
-filled xs =
+abbrev pub padded : List ℕ → List ℕ
+padded xs =
     slice_index xs 0 ∷ (slice_index xs 1 ∷ (slice_index xs 2 ∷ (slice_index xs 3 ∷
     (slice_index xs 4 ∷ (slice_index xs 5 ∷ (slice_index xs 6 ∷ (slice_index xs 7 ∷
     (slice_index xs 8 ∷ []))))))))
 
 -- the frame of a telecommand before its check is worked out
 abbrev pub body : Telecommand → List ℕ
-body t = t.number ∷ (kind_of t.command ∷ (filled (arguments_of t.command) ++ (0 ∷ [])))
+body t = t.number ∷ (kind_of t.command ∷ (padded (arguments_of t.command) ++ (0 ∷ [])))
 
 abbrev pub encoded : Telecommand → List ℕ
 encoded t = slice_set (body t) 11 (check_of (body t))

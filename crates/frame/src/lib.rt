@@ -3,7 +3,7 @@
 #![tactic(auto)]
 
 ghost use Rattle.std.specs.Prelude.{◌≡◌, true, Some};
-ghost use Rattle.frame.specs.Frame.{all_small, check_of, is_whole, command_of, decoded, kind_of, arguments_of, filled, is_kind, body, encodable, encoded, encoding};
+ghost use Rattle.frame.specs.Frame.{all_small, check_of, is_whole, command_of, decoded, kind_of, arguments_of, padded, is_kind, body, encodable, encoded, encoding};
 
 use rules::Rule;
 use schedule::Activity;
@@ -150,7 +150,7 @@ fn kind_of(command: Command) -> u64
 
 // What a frame says of it besides, and noughts behind that.
 fn arguments_of(command: Command) -> [u64; 9]
-    ensures { result ≡ filled (arguments_of command) }
+    ensures { result ≡ padded (arguments_of command) }
 {
     match command {
         Command::Put { place, number } => [place, number, 0, 0, 0, 0, 0, 0, 0],

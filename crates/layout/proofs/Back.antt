@@ -7,7 +7,8 @@ use Rattle.schedule.specs.Waiting.{no_activity}
 use Rattle.rules.specs.declared.rule.Rule.{Rule}
 use Rattle.rules.specs.Watching.{off}
 use Rattle.satellite.specs.State.{State, rule}
-use Rattle.layout.specs.Map.{bit, words_of, activity_at, rule_at, schedule_in, rules_in, state_of, Sized, ReadsBack, activity_size, rule_size, activities_at, rules_at}
+use Rattle.rules.specs.Numbers.{bit}
+use Rattle.layout.specs.Map.{words_of, activity_at, rule_at, schedule_in, rules_in, state_of, Sized, ReadsBack, activity_size, rule_size, activities_at, rules_at}
 use Rattle.layout.proofs.Places.{length_words, parameter_words, waiting_word, activity_word, rule_word, count_words}
 
 bit_back : (b : Bool) → eqb (bit b) 1 ≡ b

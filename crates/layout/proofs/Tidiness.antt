@@ -7,7 +7,8 @@ use Rattle.rules.specs.declared.rule.Rule.{Rule}
 use Rattle.parameters.specs.Places.{may_put}
 use Rattle.satellite.specs.State.{State, parameter, rule, count}
 use Rattle.satellite.specs.Fit.{most}
-use Rattle.layout.specs.Map.{bit, words_of, activity_at, rule_at, state_of, Sized, Tidy, Tells, activity_size, rule_size, time_at, safe_mode_at, parameters_at, waiting_at, activities_at, rules_at, counts_at, word_count}
+use Rattle.rules.specs.Numbers.{bit}
+use Rattle.layout.specs.Map.{words_of, activity_at, rule_at, state_of, Sized, Tidy, LeftFor, activity_size, rule_size, time_at, safe_mode_at, parameters_at, waiting_at, activities_at, rules_at, counts_at, word_count}
 use Rattle.layout.specs.Fault.{Sane, TidyRight}
 use Rattle.layout.proofs.Places.{waiting_word, rule_word, nought_word}
 use Rattle.layout.proofs.Back.{state_back}
@@ -27,7 +28,7 @@ mark_word s z i j b l m e =
     let at : rules_at + (rule_size * i + j) ≡ rules_at + j + rule_size * i = omega arith in
     subst (λ k. get_or (words_of s) k 0 ≤ 1) at (subst (λ n. n ≤ 1) (sym e) (bit_most b))
 
-pub written : (s : State) → Sized s → Tells (words_of s) s
+pub written : (s : State) → Sized s → LeftFor (words_of s) s
 written s z = record {
   says = state_back s z;
   tidy = record {

@@ -4,7 +4,7 @@ use Rattle.std.specs.List.{find, range_with_len}
 use Rattle.parameters.specs.Places.{may_put}
 use Rattle.satellite.specs.Fit.{most}
 use Rattle.satellite.specs.State.{State}
-use Rattle.layout.specs.Map.{Sized, Tells, words_of, time_at, word_count, activity_size, rule_size, waiting_at, activities_at, rules_at, counts_at}
+use Rattle.layout.specs.Map.{Sized, LeftFor, words_of, time_at, word_count, activity_size, rule_size, waiting_at, activities_at, rules_at, counts_at}
 
 -- of an activity that waits: its time is not after now, or its place may not be put
 abbrev pub activity_fault : List ℕ → ℕ → Bool
@@ -81,6 +81,6 @@ pub record FaultsRight : Type 0 where
 -- what is written for a state may be left for it; and whatever may be left for it is at fault no
 -- more than what is written
 pub record TidyRight : Type 0 where
-  pub written : (s : State) → Sized s → Tells (words_of s) s
-  pub faultless : (ws : List ℕ) (s : State) → Sized s → Tells ws s → Faultless (words_of s)
+  pub written : (s : State) → Sized s → LeftFor (words_of s) s
+  pub faultless : (ws : List ℕ) (s : State) → Sized s → LeftFor ws s → Faultless (words_of s)
       → Faultless ws

@@ -13,13 +13,13 @@
 --   70 to 165   32 activities of three words: release, place, number; 0 where none waits
 --   166 to 277  16 rules of seven words: watches, limit, 1 for upward, needs, 1 for safe mode, place, number
 --   278 to 293  the 16 counts of the rules
-use Rattle.std.specs.Prelude.{◌≡◌, ℕ, ◌+◌, ◌-◌, ◌*◌, ◌<◌, ◌≤◌, Bool, cond, List, [], ◌∷◌, ◌++◌, map, length, take, drop, replicate, ◌==◌, slice_index}
+use Rattle.std.specs.Prelude.{◌≡◌, ℕ, ◌+◌, ◌-◌, ◌*◌, ◌<◌, ◌≤◌, List, [], ◌∷◌, ◌++◌, map, length, take, drop, replicate, ◌==◌, slice_index}
 use Rattle.std.specs.List.{range_with_len, flat_map}
 use Rattle.schedule.specs.declared.activity.Activity.{Activity}
 use Rattle.rules.specs.declared.rule.Rule.{Rule}
 use Rattle.rules.specs.declared.rule.Monitor.{Monitor}
 use Rattle.schedule.specs.Numbers.{activity_numbers, activity_from}
-use Rattle.rules.specs.Numbers.{rule_numbers, rule_from}
+use Rattle.rules.specs.Numbers.{bit, rule_numbers, rule_from}
 use Rattle.satellite.specs.State.{State}
 
 -- how many words an activity and a rule take, and where each part begins: after the one before it
@@ -67,10 +67,6 @@ counts_at = rules_at + rules_room
 
 abbrev pub word_count : ℕ
 word_count = counts_at + 16
-
--- a mark is written as 0 or 1
-abbrev pub bit : Bool → ℕ
-bit b = cond b 1 0
 
 abbrev pub head_words : State → List ℕ
 head_words s = s.time ∷ (s.expected ∷ (bit s.safe_mode ∷ (s.rejected ∷ (s.missed ∷ []))))
@@ -154,6 +150,6 @@ pub record Tidy (ws : List ℕ) : Type 0 where
       → slice_index ws (activities_at + j) ≤ 1
 
 -- words that a program may leave for a state: they say it, and they are tidy
-pub record Tells (ws : List ℕ) (s : State) : Type 0 where
+pub record LeftFor (ws : List ℕ) (s : State) : Type 0 where
   pub says : state_of ws ≡ s
   pub tidy : Tidy ws

@@ -2,7 +2,7 @@
 
 #![tactic(auto)]
 
-ghost use Rattle.std.specs.Prelude.{◌≡◌, ◌+◌, ◌<◌, ◌≤◌, set, replicate};
+ghost use Rattle.std.specs.Prelude.{◌≡◌, ◌+◌, ◌^◌, ◌<◌, ◌≤◌, set, replicate};
 ghost use Rattle.rules.specs.Watching.{off, is_past, next_count, acts, may_set};
 ghost use Rattle.rules.specs.Monitors.{rules_of, counts_of};
 
@@ -39,7 +39,7 @@ impl Rule {
 
     /// For how many ticks it has been past, with this one.
     pub fn next_count(self, value: u64, count: u64) -> u64
-        requires { count ≤ 4611686018427387904 }
+        requires { count ≤ 2 ^ 62 }
         ensures { result ≡ next_count self value count }
     {
         if self.is_past(value) { count + 1 } else { 0 }

@@ -4,7 +4,8 @@ use Rattle.std.specs.List.{AllByRecursion as All}
 use Rattle.std.proofs.lemmas.Bool.{and_parts, le-leb, ltb-true}
 use Rattle.frame.specs.declared.Command.{Command}
 use Rattle.frame.specs.File.{Sendable}
-use Rattle.frame.specs.Frame.{bit, encodable}
+use Rattle.rules.specs.Numbers.{bit}
+use Rattle.frame.specs.Frame.{encodable}
 use Rattle.text.specs.Law.{all_below, command_bounded, all_said}
 use Rattle.text.specs.Text.{orders, Tells}
 

@@ -8,7 +8,8 @@ use Rattle.rules.specs.Watching.{off}
 use Rattle.rules.specs.declared.rule.Monitor.{Monitor}
 use Rattle.rules.specs.Monitors.{rule_of, count_of, counts_of}
 use Rattle.satellite.specs.Model.{model}
-use Rattle.layout.specs.Map.{Sized, bit, activity_words, activity_size, waiting_at, activities_at, counts_at, word_count}
+use Rattle.rules.specs.Numbers.{bit}
+use Rattle.layout.specs.Map.{Sized, activity_words, activity_size, waiting_at, activities_at, counts_at, word_count}
 use Rattle.layout.proofs.Parts.{made_of}
 use Rattle.layout.proofs.Places.{length_words}
 use Rattle.layout.proofs.Writing.{none, next, all, over_noughts}
