@@ -9,6 +9,7 @@ use Rattle.satellite.specs.Story.{Inputs, begun, looked, counted, acted, watched
 use Rattle.flight.specs.Machine.{AllLawful}
 use Rattle.flight.specs.Flight.{machine, after}
 use Rattle.flight.specs.Commanding.{Turn}
+use Rattle.flight.specs.Effects.{PutPlace}
 
 -- past its limit, in words: upward from the limit on, downward down from it
 pub record PastRight : Type 0 where
@@ -62,7 +63,7 @@ abbrev pub BeginsAnew : Type 0
 BeginsAnew =
     (i : Inputs) (is : List Inputs) (k : ℕ) (r : Rule) → AllLawful machine (i ∷ is)
     → Turn i is (Command.SetRule k r) → k < 16 → r.watches ≤ 63
-    → (r.safes ≡ true) ⊎ ((16 ≤ r.place) × (r.place ≤ 63))
+    → (r.safes ≡ true) ⊎ PutPlace r.place
     → (rule (after (i ∷ is)) k ≡ r) × (count (after (i ∷ is)) k ≡ 0)
 
 -- rule k acts in a tick: it is on, and its count has just become what it needs

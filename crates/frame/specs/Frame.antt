@@ -85,3 +85,8 @@ encodable t = all_small (body t) && is_kind t.command
 
 abbrev pub encoding : Telecommand → Option (List ℕ)
 encoding t = cond (encodable t) (Some (encoded t)) None
+
+-- the numbers that come up in a tick: none if no frame does
+abbrev pub come_up : Option (List ℕ) → List ℕ
+come_up None = []
+come_up (Some f) = f

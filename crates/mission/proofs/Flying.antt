@@ -15,7 +15,8 @@ use Rattle.text.specs.declared.event.Event.{Event}
 use Rattle.refusal.specs.declared.Refusal.{Refusal}
 use Rattle.mission.specs.declared.aloft.Aloft.{Aloft}
 use Rattle.mission.specs.declared.aloft.Output.{Output}
-use Rattle.mission.specs.Steps.{with_reading, with_frame, up_frame, with_hit, heard_of, output_of, Ticks, Steps, and_then, Ran, launched, stepped}
+use Rattle.frame.specs.Frame.{come_up}
+use Rattle.mission.specs.Steps.{with_reading, with_frame, up_frame, with_hit, output_of, Ticks, Steps, and_then, Ran, launched, stepped}
 use Rattle.mission.specs.Story.{readings_of, frame_of, history, reports, Struck, hits, Tolerated}
 
 -- memory differs from what was kept only where it was hit
@@ -113,8 +114,8 @@ history_short (Event.Tick ∷ es) = let h = history_short es in omega arith
 
 tick_right : (es : List Event) (a b : Aloft) (o : Output) (os : List Output) → Tolerated es → length (history es) < most → AloftRight es a os → Ticks a b o → AloftRight (Event.Tick ∷ es) b (o ∷ os)
 tick_right es a b o os l short h t =
-    let i : Inputs = record { readings = a.readings; frame = heard_of a.frame } in
-    let same : i ≡ record { readings = readings_of es; frame = heard_of (frame_of es) } = λ j. record { readings = h.readings j; frame = heard_of (h.frame j) } in
+    let i : Inputs = record { readings = a.readings; frame = come_up a.frame } in
+    let same : i ≡ record { readings = readings_of es; frame = come_up (frame_of es) } = λ j. record { readings = h.readings j; frame = come_up (h.frame j) } in
     let on = t.calls.flies (history es) h.kept h.flew (upset_of (hits es) h.kept a.memory (one_copy es l) h.scarred) short t.calls.readings t.calls.frame refl in
     let d : t.done ≡ Ok tt = on.0 in
     record {

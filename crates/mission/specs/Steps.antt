@@ -1,7 +1,7 @@
 -- What each event of a flight text does to the satellite's memory and to what its next tick gets.
 use Rattle.std.specs.Prelude.{◌≡◌, ℕ, ◌+◌, ◌*◌, cond, ◌&&◌, ◌⊎◌, List, [], ◌∷◌, length, replicate, Some, None, Ok, Err, Option, Result, nat_lt, slice_set}
 use Rattle.frame.specs.declared.Command.{Command}
-use Rattle.frame.specs.Frame.{encoding}
+use Rattle.frame.specs.Frame.{encoding, come_up}
 use Rattle.layout.specs.Map.{word_count}
 use Rattle.text.specs.declared.event.Event.{Event}
 use Rattle.refusal.specs.declared.Refusal.{Refusal}
@@ -26,11 +26,6 @@ up_frame n c = encoding (record { number = n; command = c })
 abbrev pub with_hit : (c w v : ℕ) → List ℕ → List ℕ
 with_hit c w v m = cond (nat_lt c 3 && nat_lt w word_count) (slice_set m (c * word_count + w) v) m
 
--- the numbers that come up: none if no frame does
-abbrev pub heard_of : Option (List ℕ) → List ℕ
-heard_of None = []
-heard_of (Some f) = f
-
 -- the report, unless the call was refused
 abbrev pub output_of : Result (Unit {0}) Refusal → List ℕ → Output
 output_of (Ok u) report = record { 0 = Ok report }
@@ -40,9 +35,9 @@ output_of (Err r) report = record { 0 = Err r }
 pub record Calls (a : Aloft) (done : Result (Unit {0}) Refusal) (memory report : List ℕ)
     : Type 0 where
   pub readings : length a.readings ≡ 16
-  pub frame : (length (heard_of a.frame) ≡ 0) ⊎ (length (heard_of a.frame) ≡ 12)
-  pub says : Says done a.memory a.readings (heard_of a.frame) (replicate 8 0) memory report
-  pub flies : GoesOn done a.memory a.readings (heard_of a.frame) (replicate 8 0) memory report
+  pub frame : (length (come_up a.frame) ≡ 0) ⊎ (length (come_up a.frame) ≡ 12)
+  pub says : Says done a.memory a.readings (come_up a.frame) (replicate 8 0) memory report
+  pub flies : GoesOn done a.memory a.readings (come_up a.frame) (replicate 8 0) memory report
 
 -- a tick is such a call, after which nothing is said of the next tick yet
 pub record Ticks (a b : Aloft) (o : Output) : Type 0 where

@@ -8,7 +8,8 @@ use Rattle.flight.specs.Flight.{after}
 use Rattle.flight.specs.Scheduling.{Among}
 use Rattle.text.specs.declared.event.Event.{Event}
 use Rattle.mission.specs.declared.aloft.Output.{Output}
-use Rattle.mission.specs.Steps.{with_reading, with_frame, up_frame, heard_of}
+use Rattle.frame.specs.Frame.{come_up}
+use Rattle.mission.specs.Steps.{with_reading, with_frame, up_frame}
 
 -- what was said of the instruments, and of the line, since the last tick
 abbrev pub readings_of : List Event → List ℕ
@@ -35,7 +36,7 @@ history (Event.Up n c ∷ es) = history es
 history (Event.Frame f ∷ es) = history es
 history (Event.Hit c w v ∷ es) = history es
 history (Event.Tick ∷ es) =
-    record { readings = readings_of es; frame = heard_of (frame_of es) } ∷ history es
+    record { readings = readings_of es; frame = come_up (frame_of es) } ∷ history es
 
 -- the report of each tick
 abbrev pub reports : List Event → List Output

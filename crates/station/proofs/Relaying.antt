@@ -6,14 +6,14 @@ use Rattle.std.proofs.lemmas.Bool.{cases_Bool, cases_lt, ltb-true, ltb-false, co
 use Rattle.frame.specs.declared.Command.{Command}
 use Rattle.frame.specs.declared.Telecommand.{Telecommand}
 use Rattle.frame.specs.File.{telecommand_of, Sendable}
-use Rattle.frame.specs.Frame.{decoded, encodable, encoded, encoding, body, check_of}
+use Rattle.frame.specs.Frame.{decoded, encodable, encoded, encoding, body, check_of, come_up}
 use Rattle.frame.proofs.Back.{round_trip}
 use Rattle.satellite.specs.Story.{Inputs}
 use Rattle.flight.specs.Flight.{machine, after}
 use Rattle.flight.specs.Machine.{AllLawful, none, more}
 use Rattle.station.specs.Line.{frame_for}
 use Rattle.station.specs.Passes.{FromFile, Names, Brings, now, before, Delivers}
-use Rattle.station.specs.Relay.{come_up, relayed, sent_over, some_up, UpIn, DeliveredOver, CanDeliver}
+use Rattle.station.specs.Relay.{relayed, sent_over, some_up, UpIn, DeliveredOver, CanDeliver}
 use Rattle.station.proofs.Coming.{all_obeyed}
 use Rattle.station.proofs.Knowing.{tick_expected}
 

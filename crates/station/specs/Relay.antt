@@ -7,13 +7,9 @@ use Rattle.telemetry.specs.Reports.{report_of}
 use Rattle.flight.specs.Commanding.{obeyed_in}
 use Rattle.flight.specs.Flight.{machine, after}
 use Rattle.flight.specs.Machine.{AllLawful}
+use Rattle.frame.specs.Frame.{come_up}
 use Rattle.station.specs.Line.{frame_for}
 use Rattle.station.specs.Passes.{FromFile, Delivers}
-
--- the numbers that come up of a frame, none where there is none
-abbrev pub come_up : Option (List ℕ) → List ℕ
-come_up None = []
-come_up (Some f) = f
 
 -- a tick: its instruments read 0, and the frame that the ground names comes up if the line is up
 abbrev pub relayed : Bool → List Command → List Inputs → Inputs
