@@ -46,7 +46,8 @@ EachOnce =
 abbrev pub ComesThrough : Type 0
 ComesThrough =
     (i : Inputs) (is : List Inputs) (c : Command) → Turn i is c
-    → (obeyed_in (i ∷ is) ≡ c ∷ obeyed_in is) × ((after (i ∷ is)).expected ≡ suc (after is).expected)
+    → (obeyed_in (i ∷ is) ≡ c ∷ obeyed_in is)
+    × ((after (i ∷ is)).expected ≡ suc (after is).expected)
 
 -- safe mode is had in the tick in which it is commanded
 abbrev pub SafeAtOnce : Type 0

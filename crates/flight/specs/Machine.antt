@@ -30,7 +30,8 @@ Returns M = (words : List ℕ) (s : M.State) → M.LeftFor words s → M.state w
 -- a flight, of any program: at launch memory holds words for the first state; then, between two
 -- ticks, it is upset, and each tick leaves words for what it makes of what it reads
 pub data Flown (K : Keeper) (M : Machine) : List M.Input → List ℕ → Type 0 where
-  launched : (words left : List ℕ) → M.LeftFor words M.first → K.Holds left words → Flown K M [] left
+  launched : (words left : List ℕ) → M.LeftFor words M.first → K.Holds left words
+      → Flown K M [] left
   ticked : (i : M.Input) (is : List M.Input) (kept found words left : List ℕ) → Flown K M is kept
       → K.Upset kept found → M.Lawful i → M.LeftFor words (M.step i (M.state (K.read found)))
       → K.Holds left words → Flown K M (i ∷ is) left

@@ -2,6 +2,7 @@ use parameters::Parameters;
 use rules::Rules;
 use schedule::Schedule;
 
+/// All that the satellite is, as a value: docs/INTERFACE.md has its words in memory.
 #[derive(Drop)]
 pub struct Satellite {
     /// Ticks since launch.
