@@ -4,23 +4,23 @@ use Rattle.std.specs.List.{find, range_with_len}
 use Rattle.parameters.specs.Places.{may_put}
 use Rattle.satellite.specs.Fit.{most}
 use Rattle.satellite.specs.State.{State}
-use Rattle.layout.specs.Map.{Sized, LeftFor, words_of, time_at, word_count, activity_size, rule_size, waiting_at, activities_at, rules_at, counts_at}
+use Rattle.layout.specs.Map.{Sized, LeftFor, words_of, time_at, word_count, activity_size, rule_size, waiting_at, activities_at, rules_at, counts_at, release_word, place_word, watches_word, needs_word, safes_word, rule_place_word}
 
 -- of an activity that waits: its time is not after now, or its place may not be put
 abbrev pub activity_fault : List ℕ → ℕ → Bool
 activity_fault ws k =
     nat_lt ((k - activities_at) / activity_size) (slice_index ws waiting_at)
-    && cond ((k - activities_at) % activity_size == 0)
+    && cond ((k - activities_at) % activity_size == release_word)
     (nat_le (slice_index ws k) (slice_index ws time_at))
-    ((k - activities_at) % activity_size == 1 && not (may_put (slice_index ws k)))
+    ((k - activities_at) % activity_size == place_word && not (may_put (slice_index ws k)))
 
 -- of a rule: it watches no parameter, or it is on and puts where it may not
 abbrev pub rule_fault : List ℕ → ℕ → Bool
 rule_fault ws k =
-    cond ((k - rules_at) % rule_size == 0) (nat_le 64 (slice_index ws k))
-    ((k - rules_at) % rule_size == 5
-    && (nat_le 1 (slice_index ws (k - 2))
-    && (not (slice_index ws (k - 1) == 1) && not (may_put (slice_index ws k)))))
+    cond ((k - rules_at) % rule_size == watches_word) (nat_le 64 (slice_index ws k))
+    ((k - rules_at) % rule_size == rule_place_word
+    && (nat_le 1 (slice_index ws (k - (rule_place_word - needs_word)))
+    && (not (slice_index ws (k - (rule_place_word - safes_word)) == 1) && not (may_put (slice_index ws k)))))
 
 -- word k is at fault
 abbrev pub at_fault : List ℕ → ℕ → Bool
@@ -54,16 +54,16 @@ abbrev pub Later : List ℕ → ℕ → Type 0
 Later ws i = slice_index ws time_at < slice_index ws (activities_at + activity_size * i)
 
 abbrev pub MayPut : List ℕ → ℕ → Type 0
-MayPut ws i = may_put (slice_index ws (activities_at + 1 + activity_size * i)) ≡ true
+MayPut ws i = may_put (slice_index ws (activities_at + place_word + activity_size * i)) ≡ true
 
 abbrev pub Watches : List ℕ → ℕ → Type 0
 Watches ws i = slice_index ws (rules_at + rule_size * i) < 64
 
 abbrev pub Puts : List ℕ → ℕ → Type 0
 Puts ws i =
-    (slice_index ws (rules_at + 3 + rule_size * i) ≡ 0)
-    ⊎ (((slice_index ws (rules_at + 4 + rule_size * i) == 1) ≡ true)
-    ⊎ (may_put (slice_index ws (rules_at + 5 + rule_size * i)) ≡ true))
+    (slice_index ws (rules_at + needs_word + rule_size * i) ≡ 0)
+    ⊎ (((slice_index ws (rules_at + safes_word + rule_size * i) == 1) ≡ true)
+    ⊎ (may_put (slice_index ws (rules_at + rule_place_word + rule_size * i)) ≡ true))
 
 pub record Sane (ws : List ℕ) : Type 0 where
   pub small : Small ws

@@ -105,6 +105,29 @@ activity_at ws k = activity_from (λ j. slice_index ws (activities_at + j + acti
 abbrev pub rule_at : List ℕ → ℕ → Rule
 rule_at ws k = rule_from (λ j. slice_index ws (rules_at + j + rule_size * k))
 
+-- which of its own words says what: of an activity its place; of a rule what it watches, its marks
+-- and what it needs, and its place (the orders of `activity_numbers` and `rule_numbers`)
+abbrev pub release_word : ℕ
+release_word = 0
+
+abbrev pub place_word : ℕ
+place_word = 1
+
+abbrev pub watches_word : ℕ
+watches_word = 0
+
+abbrev pub upward_word : ℕ
+upward_word = 2
+
+abbrev pub needs_word : ℕ
+needs_word = 3
+
+abbrev pub safes_word : ℕ
+safes_word = 4
+
+abbrev pub rule_place_word : ℕ
+rule_place_word = 5
+
 -- a rule beside its count
 abbrev pub monitor_at : List ℕ → ℕ → Monitor
 monitor_at ws k = record { rule = rule_at ws k; count = slice_index ws (counts_at + k) }
@@ -143,8 +166,8 @@ ReadsBack = (s : State) → Sized s → (length (words_of s) ≡ word_count) × 
 -- marks of safe mode and of rules
 pub record Tidy (ws : List ℕ) : Type 0 where
   pub safe_mode : slice_index ws safe_mode_at ≤ 1
-  pub upward : (i : ℕ) → i < 16 → slice_index ws (rules_at + 2 + rule_size * i) ≤ 1
-  pub safes : (i : ℕ) → i < 16 → slice_index ws (rules_at + 4 + rule_size * i) ≤ 1
+  pub upward : (i : ℕ) → i < 16 → slice_index ws (rules_at + upward_word + rule_size * i) ≤ 1
+  pub safes : (i : ℕ) → i < 16 → slice_index ws (rules_at + safes_word + rule_size * i) ≤ 1
   pub beyond :
       (j : ℕ) → activity_size * slice_index ws waiting_at ≤ j → j < activities_room
       → slice_index ws (activities_at + j) ≤ 1

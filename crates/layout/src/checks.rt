@@ -3,7 +3,10 @@ ghost use Rattle.std.specs.Prelude.{◌≡◌, ℕ, ◌<◌, ◌≤◌, true, �
 ghost use Rattle.parameters.specs.Places.{may_put};
 ghost use Rattle.layout.specs.Fault.{activity_fault, rule_fault, at_fault, lowest_fault, Small, Later, MayPut, Watches, Puts, Sane, FaultsRight, TidyRight};
 
-use crate::map::{ACTIVITIES, ACTIVITY, COUNTS, RULE, RULES, TIME, WAITING, WORDS};
+use crate::map::{
+    ACTIVITIES, ACTIVITY, COUNTS, NEEDS_WORD, PLACE_WORD, RELEASE_WORD, RULE, RULE_PLACE_WORD,
+    RULES, SAFES_WORD, TIME, WAITING, WATCHES_WORD, WORDS,
+};
 use crate::read::{activity, monitor};
 use parameters::{PLACES, may_put};
 use rules::{COUNT, Rule};
@@ -89,8 +92,8 @@ fn activity_fault(words: &[u64; WORDS], k: usize) -> bool
         return false;
     }
     match (k - ACTIVITIES) % ACTIVITY {
-        0 => words[k] <= words[TIME],
-        1 => !may_put(words[k]),
+        RELEASE_WORD => words[k] <= words[TIME],
+        PLACE_WORD => !may_put(words[k]),
         _ => false,
     }
 }
@@ -102,8 +105,12 @@ fn rule_fault(words: &[u64; WORDS], k: usize) -> bool
     ensures { result ≡ rule_fault words.now k }
 {
     match (k - RULES) % RULE {
-        0 => words[k] >= PLACES as u64,
-        5 => words[k - 2] >= 1 && words[k - 1] != 1 && !may_put(words[k]),
+        WATCHES_WORD => words[k] >= PLACES as u64,
+        RULE_PLACE_WORD => {
+            let needs = words[k - (RULE_PLACE_WORD - NEEDS_WORD)];
+            let safes = words[k - (RULE_PLACE_WORD - SAFES_WORD)];
+            needs >= 1 && safes != 1 && !may_put(words[k])
+        }
         _ => false,
     }
 }

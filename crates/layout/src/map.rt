@@ -28,10 +28,22 @@ pub const RULES: usize = ACTIVITIES + ACTIVITY * ROOM;
 
 pub const COUNTS: usize = RULES + RULE * COUNT;
 
-// How many words an activity and a rule take.
+// How many words an activity and a rule take, and which of them say what.
 pub const ACTIVITY: usize = 3;
 
+pub const RELEASE_WORD: usize = 0;
+
+pub const PLACE_WORD: usize = 1;
+
 pub const RULE: usize = 7;
+
+pub const WATCHES_WORD: usize = 0;
+
+pub const NEEDS_WORD: usize = 3;
+
+pub const SAFES_WORD: usize = 4;
+
+pub const RULE_PLACE_WORD: usize = 5;
 
 /// What was written is what is read.
 pub fn reads_back()
