@@ -16,7 +16,7 @@
 enum { STACK = 1 << 18, PAINT = 0xa5, FLOWN = 100 };
 
 // What a board may count on: bytes of stack, instructions of a tick, and of one that is refused for its memory.
-enum { STACK_MOST = 10000, TICK_MOST = 7000, REFUSAL_MOST = 15000 };
+enum { STACK_MOST = 6000, TICK_MOST = 7000, REFUSAL_MOST = 15000 };
 
 // Ticks of prepared satellites: whether a rule is commanded too, and whether the last word is at fault.
 static const struct {
