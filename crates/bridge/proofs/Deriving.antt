@@ -12,7 +12,6 @@ use Rattle.origin.specs.Entry as raw
 use Rattle.schedule.specs.declared.activity.Activity.{Activity}
 use Rattle.schedule.specs.Waiting.{due}
 use Rattle.frame.specs.declared.Command as today
-use Rattle.frame.specs.declared.Command.TheVariants.{Put, Later, Forget, Sleep, Wake, SetRule}
 use Rattle.frame.specs.Frame.{kind_of}
 use Rattle.frame.specs.declared.Telecommand.{Telecommand}
 use Rattle.satellite.specs.State.{State}
@@ -64,12 +63,12 @@ turn i is c l e = heard_same i is l ∙ ap now_heard e ∙ (λ j. Some (record {
 
 -- what is of today was of then: a later kind was of none
 then_command : today.Command → Command
-then_command (Put i v) = put i v
-then_command (Later a) = later a.release a.place a.number
-then_command Forget = forget
-then_command Sleep = sleep
-then_command Wake = wake
-then_command (SetRule k r) = set_rule k (record { value = r.watches; limit = r.limit; upward = r.upward; needs = r.needs; rests = r.safes; place = r.place; number = r.number })
+then_command (today.Command.Put i v) = put i v
+then_command (today.Command.Later a) = later a.release a.place a.number
+then_command today.Command.Forget = forget
+then_command today.Command.Sleep = sleep
+then_command today.Command.Wake = wake
+then_command (today.Command.SetRule k r) = set_rule k (record { value = r.watches; limit = r.limit; upward = r.upward; needs = r.needs; rests = r.safes; place = r.place; number = r.number })
 then_command c = other (kind_of c)
 
 then_back : (c : Command) → then_command (now_command c) ≡ c

@@ -3,7 +3,7 @@ use Rattle.std.proofs.Common.{◌≡◌, ℕ, suc, ◌+◌, ◌-◌, ◌<◌, �
 use Rattle.std.proofs.lemmas.Bool.{eqb-true, eqb-false, cond_both}
 use Rattle.std.proofs.lemmas.List.{get_or_append_left, get_or-append_right, get_or-drop}
 use Rattle.schedule.specs.declared.activity.Activity.{Activity}
-use Rattle.schedule.specs.declared.activity.Fate.TheVariants.{Waits, Missed, Done}
+use Rattle.schedule.specs.declared.activity.Fate.{Fate}
 use Rattle.schedule.specs.Waiting.{due, still_waiting, fate_of, fated, is_waiting, is_missed, is_done, put_all}
 use Rattle.rules.specs.Watching.{acts}
 use Rattle.frame.specs.declared.Telecommand.{Telecommand}
@@ -93,7 +93,7 @@ waiting_are t safe [] = refl
 waiting_are t safe (a ∷ xs) = go (eqb a.release t) safe (waiting_are t safe xs)
   where
     go : (b c : Bool) → fated is_waiting (λ a. fate_of a t safe) xs ≡ still_waiting t xs
-        → cond (is_waiting (cond b (cond c Missed Done) Waits)) (a ∷ fated is_waiting (λ a. fate_of a t safe) xs) (fated is_waiting (λ a. fate_of a t safe) xs) ≡ cond b (still_waiting t xs) (a ∷ still_waiting t xs)
+        → cond (is_waiting (cond b (cond c Fate.Missed Fate.Done) Fate.Waits)) (a ∷ fated is_waiting (λ a. fate_of a t safe) xs) (fated is_waiting (λ a. fate_of a t safe) xs) ≡ cond b (still_waiting t xs) (a ∷ still_waiting t xs)
     go true true e = e
     go true false e = e
     go false c e = ap (λ (l : List Activity). a ∷ l) e
@@ -103,12 +103,12 @@ missed_are t true [] = refl
 missed_are t false [] = refl
 missed_are t true (a ∷ xs) = go (eqb a.release t) (missed_are t true xs)
   where
-    go : (b : Bool) → fated is_missed (λ a. fate_of a t true) xs ≡ due t xs → cond (is_missed (cond b Missed Waits)) (a ∷ fated is_missed (λ a. fate_of a t true) xs) (fated is_missed (λ a. fate_of a t true) xs) ≡ cond b (a ∷ due t xs) (due t xs)
+    go : (b : Bool) → fated is_missed (λ a. fate_of a t true) xs ≡ due t xs → cond (is_missed (cond b Fate.Missed Fate.Waits)) (a ∷ fated is_missed (λ a. fate_of a t true) xs) (fated is_missed (λ a. fate_of a t true) xs) ≡ cond b (a ∷ due t xs) (due t xs)
     go true e = ap (λ (l : List Activity). a ∷ l) e
     go false e = e
 missed_are t false (a ∷ xs) = go (eqb a.release t) (missed_are t false xs)
   where
-    go : (b : Bool) → fated is_missed (λ a. fate_of a t false) xs ≡ [] → cond (is_missed (cond b Done Waits)) (a ∷ fated is_missed (λ a. fate_of a t false) xs) (fated is_missed (λ a. fate_of a t false) xs) ≡ []
+    go : (b : Bool) → fated is_missed (λ a. fate_of a t false) xs ≡ [] → cond (is_missed (cond b Fate.Done Fate.Waits)) (a ∷ fated is_missed (λ a. fate_of a t false) xs) (fated is_missed (λ a. fate_of a t false) xs) ≡ []
     go true e = e
     go false e = e
 
@@ -117,12 +117,12 @@ done_are t true [] = refl
 done_are t false [] = refl
 done_are t false (a ∷ xs) = go (eqb a.release t) (done_are t false xs)
   where
-    go : (b : Bool) → fated is_done (λ a. fate_of a t false) xs ≡ due t xs → cond (is_done (cond b Done Waits)) (a ∷ fated is_done (λ a. fate_of a t false) xs) (fated is_done (λ a. fate_of a t false) xs) ≡ cond b (a ∷ due t xs) (due t xs)
+    go : (b : Bool) → fated is_done (λ a. fate_of a t false) xs ≡ due t xs → cond (is_done (cond b Fate.Done Fate.Waits)) (a ∷ fated is_done (λ a. fate_of a t false) xs) (fated is_done (λ a. fate_of a t false) xs) ≡ cond b (a ∷ due t xs) (due t xs)
     go true e = ap (λ (l : List Activity). a ∷ l) e
     go false e = e
 done_are t true (a ∷ xs) = go (eqb a.release t) (done_are t true xs)
   where
-    go : (b : Bool) → fated is_done (λ a. fate_of a t true) xs ≡ [] → cond (is_done (cond b Missed Waits)) (a ∷ fated is_done (λ a. fate_of a t true) xs) (fated is_done (λ a. fate_of a t true) xs) ≡ []
+    go : (b : Bool) → fated is_done (λ a. fate_of a t true) xs ≡ [] → cond (is_done (cond b Fate.Missed Fate.Waits)) (a ∷ fated is_done (λ a. fate_of a t true) xs) (fated is_done (λ a. fate_of a t true) xs) ≡ []
     go true e = e
     go false e = e
 

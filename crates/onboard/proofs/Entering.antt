@@ -12,7 +12,7 @@ use Rattle.refusal.specs.Turned.{Turned, turned}
 use Rattle.satellite.specs.State.{State, at_launch}
 use Rattle.satellite.specs.Story.{Inputs, ticked}
 use Rattle.satellite.specs.Fit.{Fit, RuleFit, most}
-use Rattle.layout.specs.Map.{word_count, words_of, rule_at, state_of, counts_at}
+use Rattle.layout.specs.Map.{word_count, words_of, rule_at, state_of, time_at, expected_at, rejected_at, missed_at, counts_at}
 use Rattle.layout.specs.Fault.{Lowest, Sane, lowest_fault}
 use Rattle.layout.proofs.Sanity.{sane_of, lowest_is, lowest_right}
 use Rattle.layout.proofs.Said.{heads_said, waiting_said, activity_said, rule_said, count_said}
@@ -41,10 +41,10 @@ fit_of ws e =
     let s = sane_words ws e in
     let h = heads_said ws in
     record {
-      time = (let a = s.small 0 (omega arith) in omega arith);
-      expected = (let a = s.small 1 (omega arith) in omega arith);
-      rejected = (let a = s.small 3 (omega arith) in omega arith);
-      missed = (let a = s.small 4 (omega arith) in omega arith);
+      time = (let a = s.small time_at (omega arith) in omega arith);
+      expected = (let a = s.small expected_at (omega arith) in omega arith);
+      rejected = (let a = s.small rejected_at (omega arith) in omega arith);
+      missed = (let a = s.small missed_at (omega arith) in omega arith);
       placed = placed_fit ws s;
       rules = record {
         each = λ k l. subst RuleFit (sym (rule_said ws k l)) (rule_fit ws k s l);

@@ -60,14 +60,16 @@ released s =
     (with_parameters (put_all (fated is_done (fate_in s) s.schedule) s.parameters)
     (with_missed (s.missed + length (fated is_missed (fate_in s) s.schedule)) s))
 
--- whether a command can be done now: what is not named here always can
+-- whether a command can be done now; each is named, so that none is permitted by default
 abbrev pub can : State → Command → Bool
 can s (Command.Put place number) = may_put place
 can s (Command.Later activity) =
     may_put activity.place && (nat_lt s.time activity.release && nat_lt (length s.schedule) 32)
+can s Command.Forget = true
+can s Command.Sleep = true
+can s Command.Wake = true
 can s (Command.SetRule index new) = nat_lt index 16 && may_set new
 can s (Command.Unknown kind) = false
-can s _ = true
 
 -- what a command makes of each part of the state: what is not named leaves it
 abbrev pub parameters_by : Command → List ℕ → List ℕ

@@ -6,7 +6,6 @@ use Rattle.std.proofs.lemmas.List.Filters.{length-filter_more}
 use Rattle.std.proofs.lemmas.Bool.{cond-false, true≢false}
 use Rattle.schedule.specs.declared.activity.Activity.{Activity}
 use Rattle.schedule.specs.declared.activity.Fate.{Fate}
-use Rattle.schedule.specs.declared.activity.Fate.TheVariants.{Waits, Missed, Done}
 use Rattle.schedule.specs.Waiting.{no_activity, fate_of, is_waiting, is_missed, is_done, fated, put_all, AllWait, NothingDue}
 
 put_append : (xs ys : List Activity) (values : List ℕ) →
@@ -18,7 +17,7 @@ put_append (x ∷ xs) ys values = put_append xs ys (set values x.place x.number)
 wait_more : (t : ℕ) (safe : Bool) (x : Activity) (xs : List Activity) (b : Bool) → eqb x.release t ≡ b → (b || list_any (λ a. eqb a.release t) xs) ≡ false → (list_any (λ a. eqb a.release t) xs ≡ false → AllWait (λ a. fate_of a t safe) xs) → AllWait (λ a. fate_of a t safe) (x ∷ xs)
 wait_more t safe x xs true h f n = absurd (true≢false f)
 wait_more t safe x xs false h f n =
-    let w : fate_of x t safe ≡ Waits = cond-false (eqb x.release t) (cond safe Missed Done) Waits h in
+    let w : fate_of x t safe ≡ Fate.Waits = cond-false (eqb x.release t) (cond safe Fate.Missed Fate.Done) Fate.Waits h in
     let k = n f in (
       ap (λ v. cond (is_waiting v) (x ∷ fated is_waiting (λ a. fate_of a t safe) xs) (fated is_waiting (λ a. fate_of a t safe) xs)) w ∙ ap (λ (l : List Activity). x ∷ l) k.0,
       ap (λ v. cond (is_missed v) (x ∷ fated is_missed (λ a. fate_of a t safe) xs) (fated is_missed (λ a. fate_of a t safe) xs)) w ∙ k.1,

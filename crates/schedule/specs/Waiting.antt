@@ -3,7 +3,6 @@ use Rattle.std.specs.Prelude.{◌≡◌, ℕ, ◌<◌, Bool, true, false, cond, 
 use Rattle.std.specs.List.{filter}
 use Rattle.schedule.specs.declared.activity.Activity.{Activity}
 use Rattle.schedule.specs.declared.activity.Fate.{Fate}
-use Rattle.schedule.specs.declared.activity.Fate.TheVariants.{Waits, Missed, Done}
 use Rattle.schedule.specs.declared.schedule.Schedule.{Schedule}
 
 -- the activity that stands where there is none
@@ -26,23 +25,23 @@ still_waiting now (a ∷ xs) =
 
 -- what becomes of an activity in a tick, in safe mode or not
 abbrev pub fate_of : Activity → ℕ → Bool → Fate
-fate_of a now safe = cond (a.release == now) (cond safe Missed Done) Waits
+fate_of a now safe = cond (a.release == now) (cond safe Fate.Missed Fate.Done) Fate.Waits
 
 -- those of a fate, in their order
 abbrev pub is_waiting : Fate → Bool
-is_waiting Waits = true
-is_waiting Missed = false
-is_waiting Done = false
+is_waiting Fate.Waits = true
+is_waiting Fate.Missed = false
+is_waiting Fate.Done = false
 
 abbrev pub is_missed : Fate → Bool
-is_missed Waits = false
-is_missed Missed = true
-is_missed Done = false
+is_missed Fate.Waits = false
+is_missed Fate.Missed = true
+is_missed Fate.Done = false
 
 abbrev pub is_done : Fate → Bool
-is_done Waits = false
-is_done Missed = false
-is_done Done = true
+is_done Fate.Waits = false
+is_done Fate.Missed = false
+is_done Fate.Done = true
 
 abbrev pub fated : (Fate → Bool) → (Activity → Fate) → List Activity → List Activity
 fated p f xs = filter (λ a. p (f a)) xs

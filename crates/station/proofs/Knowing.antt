@@ -2,7 +2,6 @@
 use Rattle.std.proofs.Common.{◌≡◌, ℕ, zero, suc, ◌≤◌, List, [], ◌∷◌, ◌++◌, reverse, length, get_or, take, Some, sym, refl, ap, ◌∙◌, subst, ⊎_elim, add-one, arith}
 use Rattle.std.proofs.lemmas.List.{reverse-append, take_more}
 use Rattle.frame.specs.declared.Command.{Command}
-use Rattle.frame.specs.declared.Command.TheVariants.{Sleep}
 use Rattle.frame.specs.declared.Telecommand.{Telecommand}
 use Rattle.satellite.specs.State.{State}
 use Rattle.satellite.specs.Story.{Inputs, at_reception}
@@ -15,7 +14,7 @@ use Rattle.station.specs.Passes.{FromFile, SurelyObeyed}
 
 -- the commands of a file, by their numbers
 abbrev sent : List Command → ℕ → Command
-sent cs n = get_or cs n Sleep
+sent cs n = get_or cs n Command.Sleep
 
 from_ground : (cs : List Command) (is : List Inputs) → FromFile cs is → FromGround (sent cs) is
 from_ground cs [] f = tt
@@ -44,8 +43,8 @@ expected_grows i is = tick_expected (λ n. (after is).expected ≤ n) i is (omeg
 in_order : (cs : List Command) (n : ℕ) → n ≤ length cs → reverse (first_sent (sent cs) n) ≡ take n cs
 in_order cs zero l = refl
 in_order cs (suc n) l =
-    reverse-append (get_or cs n Sleep ∷ []) (first_sent (sent cs) n) ∙ ap (λ (x : List Command). x ++ (get_or cs n Sleep ∷ [])) (in_order cs n (omega arith))
-    ∙ sym (take_more cs n Sleep (omega arith)) ∙ ap (λ k. take k cs) (add-one n)
+    reverse-append (get_or cs n Command.Sleep ∷ []) (first_sent (sent cs) n) ∙ ap (λ (x : List Command). x ++ (get_or cs n Command.Sleep ∷ [])) (in_order cs n (omega arith))
+    ∙ sym (take_more cs n Command.Sleep (omega arith)) ∙ ap (λ k. take k cs) (add-one n)
 
 pub surely_obeyed : SurelyObeyed
 surely_obeyed cs is n f e =

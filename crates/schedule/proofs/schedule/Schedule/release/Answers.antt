@@ -1,7 +1,6 @@
 use Rattle.std.proofs.Common.{ℕ, ◌+◌, ◌<◌, List, length, sym, ap, ◌∙◌, subst, arith, rules}
 use Rattle.schedule.specs.declared.activity.Activity.{Activity}
 use Rattle.schedule.specs.declared.activity.Fate.{Fate}
-use Rattle.schedule.specs.declared.activity.Fate.TheVariants.{Waits, Missed, Done}
 use Rattle.schedule.specs.Waiting.{fate_of, put_all}
 use Rattle.arrayvec.proofs.ArrayVecLemmas.{filter-from_retain}
 use Rattle.schedule.proofs.Releasing.{Sofar, next, moved}
@@ -30,7 +29,7 @@ loop-activity-preserved c =
     let e = c.waiting-activity-items.ensures.all in
     let s = subst (λ (xs : List Activity). Sofar f before xs k c.loop-activity.missed c.loop-activity.parameters.values) (sym e) c.loop-activity.invariant in
     subst (λ (xs : List Activity). Sofar f before xs (k + 1) c.match-fate.missed c.match-fate.parameters.values) e (elim c.match-fate.branch [
-      | in-Waits w ↦ moved f before ws (k + 1) _ _ _ _ (omega (arith, w.missed-is)) (ap (λ p. p.values) w.parameters-is) (next f before ws k _ _ Waits l w.in-Waits.ensures s)
-      | in-Missed w ↦ moved f before ws (k + 1) _ _ _ _ w.missed-is (ap (λ p. p.values) w.parameters-is) (next f before ws k _ _ Missed l w.in-Missed.ensures s)
-      | in-Done w ↦ moved f before ws (k + 1) _ _ _ _ (omega (arith, w.missed-is)) (ap (λ p. p.values) w.parameters-is ∙ w.put.ensures) (next f before ws k _ _ Done l w.in-Done.ensures s)
+      | in-Waits w ↦ moved f before ws (k + 1) _ _ _ _ (omega (arith, w.missed-is)) (ap (λ p. p.values) w.parameters-is) (next f before ws k _ _ Fate.Waits l w.in-Waits.ensures s)
+      | in-Missed w ↦ moved f before ws (k + 1) _ _ _ _ w.missed-is (ap (λ p. p.values) w.parameters-is) (next f before ws k _ _ Fate.Missed l w.in-Missed.ensures s)
+      | in-Done w ↦ moved f before ws (k + 1) _ _ _ _ (omega (arith, w.missed-is)) (ap (λ p. p.values) w.parameters-is ∙ w.put.ensures) (next f before ws k _ _ Fate.Done l w.in-Done.ensures s)
     ])
