@@ -11,6 +11,7 @@ use Rattle.telemetry.specs.Reports.{report_of, numbers_of}
 use Rattle.flight.specs.Flight.{after, Flew}
 use Rattle.flight.specs.Scheduling.{Among, here, there}
 use Rattle.flight.proofs.Waits.{among_cons}
+use Rattle.flight.proofs.Flying.{launch_flies}
 use Rattle.text.specs.declared.event.Event.{Event}
 use Rattle.refusal.specs.declared.Refusal.{Refusal}
 use Rattle.mission.specs.declared.aloft.Aloft.{Aloft}
@@ -152,7 +153,7 @@ earlier (Event.Hit c w v) es l = l.0
 earlier Event.Tick es l = l
 
 pub run_right : (es : List Event) (a : Aloft) (os : List Output) → Ran es a os → Tolerated es → length es < most → AloftRight es a os
-run_right es a os (launched b f r g) l short = record { kept = b.memory; flew = f; scarred = no_scar b.memory; readings = r; frame = g; told = refl }
+run_right es a os (launched b f r g) l short = record { kept = b.memory; flew = subst (Flew []) (sym f) launch_flies; scarred = no_scar b.memory; readings = r; frame = g; told = refl }
 run_right es a os (stepped e fs b c o ps ran s) l short =
     let h = history_short fs in
     step_right e fs b c o ps l (omega arith) (run_right fs b ps ran (earlier e fs l) (omega arith)) s

@@ -2,11 +2,12 @@
 use Rattle.std.specs.Prelude.{◌≡◌, ℕ, ◌+◌, ◌*◌, cond, ◌&&◌, ◌⊎◌, List, [], ◌∷◌, length, replicate, Some, None, Ok, Err, Option, Result, nat_lt, slice_set}
 use Rattle.frame.specs.declared.Command.{Command}
 use Rattle.frame.specs.Frame.{encoding, come_up}
-use Rattle.layout.specs.Map.{word_count}
+use Rattle.satellite.specs.State.{at_launch}
+use Rattle.layout.specs.Map.{word_count, words_of}
 use Rattle.text.specs.declared.event.Event.{Event}
 use Rattle.refusal.specs.declared.Refusal.{Refusal}
 use Rattle.onboard.specs.Entry.{Says, GoesOn}
-use Rattle.flight.specs.Flight.{Flew}
+use Rattle.flight.specs.Flight.{keeper}
 use Rattle.mission.specs.declared.aloft.Aloft.{Aloft}
 use Rattle.mission.specs.declared.aloft.Output.{Output}
 
@@ -62,9 +63,9 @@ and_then None os = os
 and_then (Some o) os = o ∷ os
 
 -- from launch, after these events, the latest first, it is aloft like this and gave these outputs,
--- the latest first
+-- the latest first. Every number of memory at launch is known, so all outputs are, whatever the hits
 pub data Ran : List Event → Aloft → List Output → Type 0 where
-  launched : (a : Aloft) → Flew [] a.memory → a.readings ≡ replicate 16 0 → a.frame ≡ None
-      → Ran [] a []
+  launched : (a : Aloft) → a.memory ≡ keeper.stored (words_of at_launch)
+      → a.readings ≡ replicate 16 0 → a.frame ≡ None → Ran [] a []
   stepped : (e : Event) (es : List Event) (a b : Aloft) (o : Option Output)
       (os : List Output) → Ran es a os → Steps a e b o → Ran (e ∷ es) b (and_then o os)

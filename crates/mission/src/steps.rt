@@ -1,5 +1,7 @@
 ghost use Rattle.std.specs.Prelude.{◌≡◌, [], replicate, Some, None};
-ghost use Rattle.flight.specs.Flight.{Flew};
+ghost use Rattle.satellite.specs.State.{at_launch};
+ghost use Rattle.layout.specs.Map.{words_of};
+ghost use Rattle.flight.specs.Flight.{keeper, Flew};
 ghost use Rattle.mission.specs.Steps.{with_reading, with_frame, up_frame, with_hit, Ticks, Steps};
 
 use crate::aloft::{Aloft, Output};
@@ -15,6 +17,7 @@ const _: () = prove!(text::WORDS == layout::WORDS as u64);
 impl Aloft {
     /// At launch, with nothing said of its first tick yet.
     pub fn launched() -> Aloft
+        ensures memory { result.memory ≡ keeper.stored (words_of at_launch) }
         ensures flew { Flew [] result.memory }
         ensures readings { result.readings ≡ replicate 16 0 }
         ensures frame { result.frame ≡ None }

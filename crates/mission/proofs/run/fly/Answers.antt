@@ -12,7 +12,7 @@ use Rattle.mission.proofs.run.fly.Goals.{in-Some+in_ok-push, in_default}
 pub loop-event-init : goal.loop-event-init
 loop-event-init c =
     subst (λ (os : List Output). Ran [] c.launched-aloft.result (reverse os)) (sym c.new-outputs.ensures.items)
-    (launched c.launched-aloft.result c.launched-aloft.ensures.flew c.launched-aloft.ensures.readings c.launched-aloft.ensures.frame)
+    (launched c.launched-aloft.result c.launched-aloft.ensures.memory c.launched-aloft.ensures.readings c.launched-aloft.ensures.frame)
 
 pub loop-event-preserved : goal.loop-event-preserved
 loop-event-preserved c =

@@ -19,7 +19,7 @@ loop-read-init g c =
     let a = c.launched-aloft in
     let new = c.new-read-items.ensures in
     subst (λ (s : Statements Event). IsNumbered s × Underway took text s a.result c.args.out.now c.args.out.now) (sym c.into_iter-read-iterator.ensures.into_iter_gives)
-    (new.numbered, begin took text c.new-read-items.result a.result c.args.out.now (start flights text _ _ _ new.lines new.line new.heard) (launched a.result a.ensures.flew a.ensures.readings a.ensures.frame))
+    (new.numbered, begin took text c.new-read-items.result a.result c.args.out.now (start flights text _ _ _ new.lines new.line new.heard) (launched a.result a.ensures.memory a.ensures.readings a.ensures.frame))
 
 pub returns-in_err-event : goal.returns-in_err-event
 returns-in_err-event g c =
