@@ -3,7 +3,7 @@ use rules::Rules;
 use schedule::Schedule;
 
 /// All that the satellite is, as a value: docs/INTERFACE.md has its words in memory.
-#[derive(Drop)]
+#[derive(Clone, Drop)]
 pub struct Satellite {
     /// Ticks since launch.
     pub time: u64,

@@ -9,7 +9,7 @@ use parameters::Parameters;
 pub const ROOM: usize = 32;
 
 /// Up to 32 activities, in the order in which they came, in the satellite itself: nothing on board allocates.
-#[derive(Drop)]
+#[derive(Clone, Drop)]
 pub struct Schedule {
     activities: ArrayVec<Activity, ROOM>,
 }
@@ -34,14 +34,16 @@ impl Schedule {
 
     /// How many wait.
     pub fn len(&self) -> usize
-        ensures { result ≡ length (waiting self.now) }
+        ensures count { result ≡ length (waiting self.now) }
+        ensures few { result ≤ 32 }
     {
         self.activities.len()
     }
 
     /// Whether no more activity can wait.
     pub fn is_full(&self) -> bool
-        ensures { result ≡ nat_le 32 (length (waiting self.now)) }
+        ensures full { result ≡ nat_le 32 (length (waiting self.now)) }
+        ensures few { length (waiting self.now) ≤ 32 }
     {
         self.activities.is_full()
     }

@@ -27,8 +27,8 @@ impl Satellite {
         self.expected += 1;
     }
 
-    // Whether a command can be done now.
-    fn can(&self, command: Command) -> bool
+    /// Whether a command can be done now.
+    pub fn can(&self, command: Command) -> bool
         ensures { result ≡ can (model self.now) command }
     {
         match command {
