@@ -12,11 +12,11 @@ use Rattle.flight.specs.Machine.{Machine, story, AllLawful, none, more, Returns,
 use Rattle.flight.specs.Flight.{keeper, machine, after, Flew, FliesRight, CarriesOn}
 use Rattle.flight.proofs.Sound.{after_sized}
 
-pub all_lawful : (K : Keeper) (M : Machine) (is : List M.Input) (kept : List ℕ) → Flown K M is kept → AllLawful M is
+pub all_lawful : {Memory : Type 0} (K : Keeper Memory) (M : Machine) (is : List M.Input) (kept : Memory) → Flown K M is kept → AllLawful M is
 all_lawful K M is kept (launched words left left_for holds) = none
 all_lawful K M is kept (ticked i js m found words left flown upset lawful left_for holds) = more i js lawful (all_lawful K M js m flown)
 
-left_story : (K : Keeper) (M : Machine) → Mends K → Returns M → (is : List M.Input) (kept : List ℕ) → Flown K M is kept → Left K M kept (story M is)
+left_story : {Memory : Type 0} (K : Keeper Memory) (M : Machine) → Mends K → Returns M → (is : List M.Input) (kept : Memory) → Flown K M is kept → Left K M kept (story M is)
 left_story K M mends returns is kept (launched words left left_for holds) = record { words = words; left_for = left_for; holds = holds }
 left_story K M mends returns is kept (ticked i js m found words left flown upset lawful left_for holds) =
     let before = left_story K M mends returns js m flown in
@@ -24,7 +24,7 @@ left_story K M mends returns is kept (ticked i js m found words left flown upset
     record { words = words; left_for = subst (λ s. M.LeftFor words (M.step i s)) state left_for; holds = holds }
 
 pub always_flies : AlwaysFlies
-always_flies K M mends returns = record {
+always_flies Memory K M mends returns = record {
   reads = λ is kept found flown upset.
       let left = left_story K M mends returns is kept flown in
       ap M.state (mends kept found left.words left.holds upset) ∙ returns left.words (story M is) left.left_for;
@@ -36,7 +36,7 @@ pub keeps : Keeps word_count keeper
 keeps = keeps_words word_count
 
 pub flies_right : FliesRight
-flies_right = always_flies keeper machine keeps.mends (λ words s left_for. left_for.says)
+flies_right = always_flies (List ℕ) keeper machine keeps.mends (λ words s left_for. left_for.says)
 
 -- what is stored for a state that has its room in memory
 pub stored : (is : List Inputs) → AllLawful machine is → Left keeper machine (keeper.stored (words_of (after is))) (after is)

@@ -17,7 +17,7 @@ pub record Lawful (i : Inputs) : Type 0 where
   pub frame : (length i.frame ≡ 0) ⊎ (length i.frame ≡ 12)
 
 -- how its words are kept
-abbrev pub keeper : Keeper
+abbrev pub keeper : Keeper (List ℕ)
 keeper = memory.keeper word_count
 
 abbrev pub machine : Machine

@@ -29,26 +29,31 @@ Returns M = (words : List ℕ) (s : M.State) → M.LeftFor words s → M.state w
 
 -- a flight, of any program: at launch memory holds words for the first state; then, between two
 -- ticks, it is upset, and each tick leaves words for what it makes of what it reads
-pub data Flown (K : Keeper) (M : Machine) : List M.Input → List ℕ → Type 0 where
-  launched : (words left : List ℕ) → M.LeftFor words M.first → K.Holds left words
+pub data Flown {Memory : Type 0} (K : Keeper Memory) (M : Machine)
+    : List M.Input → Memory → Type 0 where
+  launched : (words : List ℕ) (left : Memory) → M.LeftFor words M.first → K.Holds left words
       → Flown K M [] left
-  ticked : (i : M.Input) (is : List M.Input) (kept found words left : List ℕ) → Flown K M is kept
-      → K.Upset kept found → M.Lawful i → M.LeftFor words (M.step i (M.state (K.read found)))
-      → K.Holds left words → Flown K M (i ∷ is) left
+  ticked : (i : M.Input) (is : List M.Input) (kept found : Memory) (words : List ℕ)
+      (left : Memory) → Flown K M is kept → K.Upset kept found → M.Lawful i
+      → M.LeftFor words (M.step i (M.state (K.read found))) → K.Holds left words
+      → Flown K M (i ∷ is) left
 
 -- memory holds words for a state
-pub record Left (K : Keeper) (M : Machine) (left : List ℕ) (s : M.State) : Type 0 where
+pub record Left {Memory : Type 0} (K : Keeper Memory) (M : Machine) (left : Memory)
+    (s : M.State) : Type 0 where
   pub words : List ℕ
   pub left_for : M.LeftFor words s
   pub holds : K.Holds left words
 
 -- whatever the inputs and the upsets: what is read is the story's, and so is what was left
-pub record Flies (K : Keeper) (M : Machine) : Type 0 where
+pub record Flies {Memory : Type 0} (K : Keeper Memory) (M : Machine) : Type 0 where
   pub reads :
-      (is : List M.Input) (kept found : List ℕ) → Flown K M is kept → K.Upset kept found
+      (is : List M.Input) (kept found : Memory) → Flown K M is kept → K.Upset kept found
       → M.state (K.read found) ≡ story M is
-  pub holds : (is : List M.Input) (kept : List ℕ) → Flown K M is kept → Left K M kept (story M is)
+  pub holds : (is : List M.Input) (kept : Memory) → Flown K M is kept → Left K M kept (story M is)
 
--- this holds of every keeper that mends and every machine that reads back what may be left
+-- this holds of every keeper that mends, whatever its memory is, and every machine that reads back
+-- what may be left
 abbrev pub AlwaysFlies : Type 1
-AlwaysFlies = (K : Keeper) (M : Machine) → Mends K → Returns M → Flies K M
+AlwaysFlies =
+    (Memory : Type 0) (K : Keeper Memory) (M : Machine) → Mends K → Returns M → Flies K M

@@ -40,7 +40,7 @@ pub record Upset (n : ℕ) (m h : List ℕ) : Type 0 where
       ⊎ ((Spared n m h 0 k × Spared n m h 2 k) ⊎ (Spared n m h 0 k × Spared n m h 1 k))
 
 -- n words kept three times
-abbrev pub threefold : ℕ → Keeper
+abbrev pub threefold : ℕ → Keeper (List ℕ)
 threefold n = record {
   size = size n;
   read = voted_words n;
