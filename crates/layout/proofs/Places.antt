@@ -1,8 +1,9 @@
 -- Which word of a state stands where.
-use Rattle.std.proofs.Common.{◌≡◌, ℕ, ◌+◌, ◌-◌, ◌*◌, ◌<◌, ◌≤◌, List, [], length, get_or, take, drop, replicate, sym, refl, ap, ◌∙◌, arith, length-append}
+use Rattle.std.proofs.Common.{◌≡◌, ℕ, ◌+◌, ◌-◌, ◌*◌, ◌<◌, ◌≤◌, List, [], length, get_or, take, drop, replicate, sym, refl, ap, ◌∙◌, ⊎_elim, arith, length-append}
 use lib.ListN.{length-replicate}
 use Rattle.std.specs.List.{flat_map}
-use Rattle.std.proofs.lemmas.List.{append-nil, get_or-replicate}
+use Rattle.std.proofs.lemmas.List.{append-nil, get_or-replicate, get_or_past}
+use Rattle.std.proofs.lemmas.Bool.{cases_lt}
 use Rattle.schedule.specs.Waiting.{no_activity}
 use Rattle.rules.specs.Watching.{off}
 use Rattle.satellite.specs.State.{State, parameter, rule, count}
@@ -69,8 +70,11 @@ nought_word s z j a b =
     ∙ behind (flat_map activity_words s.schedule) _ (activity_size * length s.schedule) (j - activity_size * length s.schedule) n
     ∙ get_or-replicate (activities_room - activity_size * length s.schedule) (j - activity_size * length s.schedule) 0 0 (omega arith)
 
-pub count_word : (s : State) → Sized s → (k : ℕ) → k < 16 → get_or (words_of s) (counts_at + k) 0 ≡ count s k
-count_word s z k l = word s z 5 k l
+pub count_word : (s : State) → Sized s → (k : ℕ) → get_or (words_of s) (counts_at + k) 0 ≡ count s k
+count_word s z k =
+    ⊎_elim (λ (l : k < 16). word s z 5 k l)
+    (λ (past : 16 ≤ k). get_or_past (words_of s) (counts_at + k) 0 (let e = length_words s z in omega arith) ∙ sym (get_or_past s.counts k 0 (let e = z.counts in omega arith)))
+    (cases_lt k 16)
 
 pub count_words : (s : State) → Sized s → take 16 (drop counts_at (words_of s)) ≡ s.counts
 count_words s z = part_is s z 5 (omega arith)

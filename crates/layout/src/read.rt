@@ -9,6 +9,7 @@ use crate::map::{
     ACTIVITIES, ACTIVITY, COUNTS, EXPECTED, MISSED, PARAMETERS, REJECTED, RULE, RULES, SAFE_MODE,
     TIME, WAITING, WORDS,
 };
+use crate::write::replace;
 use rules::{Monitor, Rule};
 use satellite::Satellite;
 use schedule::{Activity, Schedule};
@@ -34,10 +35,10 @@ fn fill(words: &[u64; WORDS], satellite: &mut Satellite)
     satellite.safe_mode = words[SAFE_MODE] == 1;
     satellite.rejected = words[REJECTED];
     satellite.missed = words[MISSED];
-    satellite
-        .parameters
-        .values
-        .copy_from_slice(&words[PARAMETERS..WAITING]);
+    replace(
+        &mut satellite.parameters.values,
+        &words[PARAMETERS..WAITING],
+    );
     fill_schedule(words, &mut satellite.schedule);
     fill_monitors(words, &mut satellite.rules.monitors);
 }

@@ -71,12 +71,13 @@ fn lay<const M: usize>(words: &mut [u64; WORDS], from: usize, part: &[u64; M])
     replace(&mut words[from..from + M], part);
 }
 
-// The room becomes the part. As an array of its length: `copy_from_slice` would look each time whether the two overlap.
-fn replace<const M: usize>(room: &mut [u64], part: &[u64; M])
-    requires { length room.old ≡ M }
+// The room becomes the part, word by word. `copy_from_slice` would look each time whether the two overlap, and an array
+// given to the place of another is moved by `memmove`, which a board need not have.
+pub(crate) fn replace(room: &mut [u64], part: &[u64])
+    requires { length room.old ≡ length part.now }
     ensures { room.new ≡ part.now }
 {
-    if let Some(room) = room.as_mut_array::<M>() {
-        *room = *part;
+    for (k, word) in room.iter_mut().enumerate() {
+        *word = part[k];
     }
 }
