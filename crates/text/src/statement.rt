@@ -76,6 +76,10 @@ impl<'a, S: Statement> Iterator for Statements<'a, S> {
 
     fn next(&mut self) -> Option<Result<Option<S>, Fault>> {
         let (n, line) = self.lines.next()?;
+        // That it says nothing is told at once: what `read_line` answers is copied as a whole.
+        if line.is_empty() {
+            return Some(Ok(None));
+        }
         let read = read_line::<S>(self.heap, line, self.heard);
         self.heard = heard_on(self.heard, read);
         Some(read.map_err(|unread| unread.at(n)))
