@@ -6,7 +6,7 @@
 mod tests {
     use frame::{Command, Telecommand, decode, encode};
     use layout::WORDS;
-    use memory::{Kept, keep};
+    use memory::Kept;
     use onboard::{MEMORY_LENGTH, launch, tick};
     use refusal::{Lent, Refusal};
     use rules::Rule;
@@ -275,7 +275,7 @@ mod tests {
         );
         assert!(rt; memory == craft.memory);
         memory[70] = 2;
-        keep::<WORDS>(&mut memory);
+        memory[WORDS + 70] = 2;
         let hit = memory;
         assert_eq!(rt;
             tick(&mut memory, &QUIET, &[], &mut report),
