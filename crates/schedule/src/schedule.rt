@@ -1,20 +1,23 @@
 ghost use Rattle.std.specs.Prelude.{◌≡◌, ◌<◌, ◌≤◌, true, false, [], ◌∷◌, ◌++◌, length, nat_le};
-ghost use Rattle.schedule.specs.Waiting.{waiting, fated, is_waiting, is_missed, is_done, put_all, fate_of, NothingDue, SomeDue, Placed};
 
 use crate::activity::{Activity, Fate};
 use arrayvec::ArrayVec;
 use parameters::Parameters;
+use std::alloc::AllocError;
 
 /// How many activities can wait.
 pub const ROOM: usize = 32;
 
 /// Up to 32 activities, in the order in which they came, in the satellite itself: nothing on board allocates.
-#[derive(Clone, Drop)]
+#[derive(Drop)]
 pub struct Schedule {
     activities: ArrayVec<Activity, ROOM>,
+    ghost few: { length activities.items ≤ 32 },
 }
 
 impl Schedule {
+    ghost use Rattle.schedule.specs.Waiting.{waiting, fated, is_waiting, is_missed, is_done, put_all, fate_of, NothingDue, SomeDue, Placed};
+
     /// Nothing waits.
     pub fn empty() -> Schedule
         ensures { waiting result ≡ [] }
@@ -34,16 +37,14 @@ impl Schedule {
 
     /// How many wait.
     pub fn len(&self) -> usize
-        ensures count { result ≡ length (waiting self.now) }
-        ensures few { result ≤ 32 }
+        ensures { result ≡ length (waiting self.now) }
     {
         self.activities.len()
     }
 
     /// Whether no more activity can wait.
     pub fn is_full(&self) -> bool
-        ensures full { result ≡ nat_le 32 (length (waiting self.now)) }
-        ensures few { length (waiting self.now) ≤ 32 }
+        ensures { result ≡ nat_le 32 (length (waiting self.now)) }
     {
         self.activities.is_full()
     }
@@ -102,5 +103,19 @@ impl Schedule {
         self.activities
             .retain(|activity| activity.fate(time, safe_mode).waits());
         missed
+    }
+}
+
+impl Clone for Schedule {
+    ghost use Rattle.std.specs.Prelude.{⊤};
+    ghost use Rattle.schedule.specs.Waiting.{waiting};
+
+    ghost is_clone = { λ schedule copy. waiting copy ≡ waiting schedule };
+
+    ghost is_infallible = { λ _. ⊤ };
+
+    fn clone(&self) -> Result<Schedule, AllocError> {
+        let activities = self.activities.clone()?;
+        Ok(Schedule { activities })
     }
 }

@@ -31,7 +31,7 @@ returns c =
     let l₁ = next (model s) z 0 (omega arith) (omega arith) _ _ (none (model s) z c.args.words.now (omega arith))
     (c.lay.ensures.laid ∙ ap (λ m. take 0 c.args.words.now ++ ((s.time ∷ (s.expected ∷ (m ∷ (s.rejected ∷ (s.missed ∷ []))))) ++ drop 5 c.args.words.now)) (c.from.ensures ∙ as_bit s.safe_mode)) in
     let l₂ = next (model s) z 1 (omega arith) (omega arith) _ _ l₁ c.lay-2.ensures.laid in
-    let l₃ = next (model s) z 2 (omega arith) (omega arith) _ _ l₂ (c.lay-3.ensures.laid ∙ ap (λ k. take waiting_at c.lay-2.new.words ++ ((k ∷ []) ++ drop activities_at c.lay-2.new.words)) c.len.ensures.count) in
+    let l₃ = next (model s) z 2 (omega arith) (omega arith) _ _ l₂ (c.lay-3.ensures.laid ∙ ap (λ k. take waiting_at c.lay-2.new.words ++ ((k ∷ []) ++ drop activities_at c.lay-2.new.words)) c.len.ensures) in
     let l₄ = next (model s) z 3 (omega arith) (omega arith) _ _ l₃
     (over_noughts (activity_size * length (waiting s.schedule)) (flat_map activity_words (waiting s.schedule)) _ _ _ (omega arith) (l₃.long ∙ length_words (model s) z) c.lay-4.ensures.laid
     (c.lay_activities.ensures ∙ ap (λ (x : List Activity). take activities_at c.lay-4.new.words ++ (flat_map activity_words x ++ drop (activities_at + activity_size * length x) c.lay-4.new.words)) c.waiting.ensures.all)) in
