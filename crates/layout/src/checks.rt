@@ -73,23 +73,18 @@ fn at_fault(words: &[u64; WORDS], k: usize) -> bool
     requires { k < word_count }
     ensures { result ≡ at_fault words.now k }
 {
-    // No `match` over ranges: of one the compiler works out every case for each word (bench/README.md).
-    if words[k] > LARGEST {
-        true
-    } else if k == WAITING {
-        words[k] > ROOM as u64
-    } else if k < ACTIVITIES {
-        false
-    } else if k < RULES {
-        activity_fault(words, k)
-    } else if k < COUNTS {
-        rule_fault(words, k)
-    } else {
-        false
-    }
+    words[k] > LARGEST
+        || match k {
+            WAITING => words[k] > ROOM as u64,
+            ACTIVITIES..RULES => activity_fault(words, k),
+            RULES..COUNTS => rule_fault(words, k),
+            _ => false,
+        }
 }
 
-// A word is told by its place, since the answer is a place. Of an activity that waits: its time is not after now, or its place may not be put.
+// A word is told by its place, since the answer is a place. Of an activity that waits: its time is not after now, or its
+// place may not be put. Like `rule_fault` not inlined, for the compiler would work out both for every word (bench/README.md).
+#[inline(never)]
 fn activity_fault(words: &[u64; WORDS], k: usize) -> bool
     requires past { activities_at ≤ k }
     requires inside { k < rules_at }
@@ -106,6 +101,7 @@ fn activity_fault(words: &[u64; WORDS], k: usize) -> bool
 }
 
 // Of a rule: it watches no parameter, or it is on and puts where it may not.
+#[inline(never)]
 fn rule_fault(words: &[u64; WORDS], k: usize) -> bool
     requires past { rules_at ≤ k }
     requires inside { k < counts_at }
