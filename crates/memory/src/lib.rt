@@ -9,8 +9,8 @@ ghost use Rattle.memory.specs.Kept.{KeepsWords};
 /// How many numbers of memory a word takes.
 pub const PER_WORD: usize = 3;
 
-// Of three copies the number on which two agree, the first if none do.
-fn vote(a: u64, b: u64, c: u64) -> u64
+/// Of three copies the number on which two agree, the first if none do.
+pub fn vote(a: u64, b: u64, c: u64) -> u64
     ensures { result ≡ majority a b c }
 {
     // Where b and c differ, a is either in a majority or the first of three that differ.

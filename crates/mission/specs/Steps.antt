@@ -63,7 +63,7 @@ and_then None os = os
 and_then (Some o) os = o ∷ os
 
 -- from launch, after these events, the latest first, it is aloft like this and gave these outputs,
--- the latest first. Every number of memory at launch is known, so all outputs are, whatever the hits
+-- the latest first. All of memory at launch is known, and so all outputs are, whatever the hits
 pub data Ran : List Event → Aloft → List Output → Type 0 where
   launched : (a : Aloft) → a.memory ≡ keeper.stored (words_of at_launch)
       → a.readings ≡ replicate 16 0 → a.frame ≡ None → Ran [] a []
